@@ -1,0 +1,2 @@
+// The slip form of metadata.
+ghost use Rattle.slip.specs.Slips.{slipMeaning};
