@@ -15,4 +15,5 @@ pub use items::Buffer;
 pub use items::Node;
 pub use readings::Reading;
 pub use readings::Refused;
+pub use rows::NO_ROW;
 pub use rows::Row;

@@ -4,6 +4,8 @@ pub mod shapes;
 pub mod types;
 mod unions;
 
+pub use fixed::UNKNOWN;
+pub use fixed::int_row;
 pub use shapes::Shape;
 pub use shapes::Tags;
 pub use shapes::Typed;
