@@ -95,6 +95,10 @@ contentsOf bs l =
 abbrev pub messageOf : List ℕ → Lists → Message
 messageOf bs l = record { version = toZ w16 (told 2 bs 0); body = toZ w64 (told 8 bs 4); contents = contentsOf bs l }
 
--- what a slip says: all four lists are looked at, whatever the header type
+-- the lists of bytes that are a slip: all four are looked at, whatever the header type
+unfoldable pub slipLists : List ℕ → Option Lists
+slipLists bs = elim (slip bs) [ true ↦ listsOf bs | false ↦ None ]
+
+-- what a slip says
 unfoldable pub slipMeaning : List ℕ → Read
-slipMeaning bs = elim (slip bs) [ true ↦ andThen (listsOf bs) (λ l. Some (messageOf bs l)) | false ↦ None ]
+slipMeaning bs = andThen (slipLists bs) (λ l. Some (messageOf bs l))

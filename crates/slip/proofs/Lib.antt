@@ -1,0 +1,5 @@
+pub mod Same
+pub mod Lying
+pub mod Gathered
+pub mod Headed
+pub mod Meant

@@ -1,0 +1,27 @@
+// The rows of a schema.
+ghost use mathlib.Core.Path.{_≡_};
+ghost use Rattle.message.specs.Listed.{nth};
+ghost use Rattle.slip.specs.Slips.{rowsIn};
+use crate::numbers::i64_in;
+use crate::numbers::u8_in;
+use crate::numbers::u32_in;
+use crate::trailers::ROW;
+use message::Row;
+
+// Row k of a list of rows.
+pub(crate) fn row_in(list: &[u8], k: usize) -> Option<Row>
+    ensures { λ r. ⌜ r ≡ nth (rowsIn (now (list .entry))) k ⌝ }
+{
+    if k >= list.len() / ROW {
+        return None;
+    }
+    let at = ROW * k;
+    Some(Row {
+        kind: u8_in(list, at),
+        flag: u8_in(list, at + 1),
+        tag: u8_in(list, at + 2),
+        parameter: u32_in(list, at + 4),
+        id: i64_in(list, at + 8),
+        end: u32_in(list, at + 16),
+    })
+}
