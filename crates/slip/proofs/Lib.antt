@@ -1,5 +1,6 @@
 pub mod Same
 pub mod Lying
 pub mod Gathered
-pub mod Headed
+pub mod Counted
+pub mod Chosen
 pub mod Meant

@@ -1,21 +1,20 @@
 -- What a slip says, by its lists.
-use mathlib.Core.Path.{_≡_, refl, sym, _∙_, ap}
-use mathlib.Core.Bool.{Bool, true, false, _||_}
+use mathlib.Core.Path.{_≡_, refl, _∙_, ap}
+use mathlib.Core.Bool.{cond, _||_}
 use mathlib.Core.List.{List, []}
 use Prim.Native.Nat.{ℕ}
 use lib.Dec.{eqb}
 use Rattle.std.specs.declared.option.Option.{Option}
 use Rattle.std.specs.declared.option.Option.the-variants.{Some, None}
-use Rattle.std.specs.declared.result.Result.{Result}
 use Rattle.std.specs.declared.result.Result.the-variants.{Ok, Err}
 use Rattle.little.specs.Maybe.{andThen}
 use Rattle.message.specs.declared.headers.Facts.{Facts}
-use Rattle.message.specs.declared.rows.Row.{Row}
-use Rattle.message.specs.Listed.{nth}
-use Rattle.message.specs.Messages.{Columns, Message, headerOf, factsOf, rowsOf, listOf}
+use Rattle.message.specs.Items.{nodesIn, buffersIn, countsIn}
+use Rattle.message.specs.Listed.{listed}
+use Rattle.message.specs.Messages.{Columns, factsOf, rowsOf, listOf, nodesOf, buffersOf, countsOf}
 use Rattle.slip.specs.Slips.{told, rowsIn, Lists, columnsOf, messageOf, slipLists, slipMeaning}
-use Rattle.slip.specs.Chosen.{schemaLists, batchLists}
-use Rattle.slip.proofs.Headed.{rows-chosen, list-chosen}
+use Rattle.slip.specs.Chosen.{chosenLists}
+use Rattle.slip.proofs.Chosen.{rows-chosen, list-chosen}
 
 read-lists : (bs : List ℕ) (o : Option Lists) → o ≡ slipLists bs → andThen o (λ l. Some (messageOf bs l)) ≡ slipMeaning bs
 unfolding slipMeaning
@@ -27,27 +26,50 @@ facts-refused bs e = ap factsOf (read-lists bs None e)
 pub facts-meant : (bs : List ℕ) (l : Lists) (facts : Facts) → Ok facts ≡ factsOf (Some (messageOf bs l)) → Some l ≡ slipLists bs → Ok facts ≡ factsOf (slipMeaning bs)
 facts-meant bs l facts f e = f ∙ ap factsOf (read-lists bs (Some l) e)
 
--- a list of the lists, where there are any
-abbrev from : {A : Type 0} → (Lists → List A) → Option Lists → List A
-from list None = []
-from list (Some l) = list l
+no-rows : rowsIn [] ≡ []
+unfolding listed
+no-rows = refl
 
-kept : {A : Type 0} (list : Lists → List A) (l : Lists) (t : Bool) → elim t [ true ↦ list l | false ↦ [] ] ≡ from list (elim t [ true ↦ Some l | false ↦ None ])
-kept list l true = refl
-kept list l false = refl
+no-nodes : nodesIn [] ≡ []
+unfolding listed
+no-nodes = refl
 
-rows-from : (bs : List ℕ) (o : Option Lists) → rowsOf (andThen o (λ l. Some (messageOf bs l))) ≡ from (λ l. rowsIn (l .rows)) (andThen o (λ l. elim (eqb (told 1 bs 2) 1) [ true ↦ Some l | false ↦ None ]))
-rows-from bs None = refl
-rows-from bs (Some l) = rows-chosen bs l ∙ kept (λ m. rowsIn (m .rows)) l (eqb (told 1 bs 2) 1)
+no-buffers : buffersIn [] ≡ []
+unfolding listed
+no-buffers = refl
 
-list-from : {A : Type 0} (list : Columns → List A) (bs : List ℕ) (o : Option Lists) → listOf list (andThen o (λ l. Some (messageOf bs l))) ≡ from (λ l. list (columnsOf bs l)) (andThen o (λ l. elim (eqb (told 1 bs 2) 2 || eqb (told 1 bs 2) 3) [ true ↦ Some l | false ↦ None ]))
-list-from list bs None = refl
-list-from list bs (Some l) = list-chosen bs l list ∙ kept (λ m. list (columnsOf bs m)) l (eqb (told 1 bs 2) 2 || eqb (told 1 bs 2) 3)
+no-counts : countsIn [] ≡ []
+unfolding listed
+no-counts = refl
 
-pub rows-meant : (bs : List ℕ) (k : ℕ) (o : Option Lists) → o ≡ schemaLists bs → nth (from (λ l. rowsIn (l .rows)) o) k ≡ nth (rowsOf (slipMeaning bs)) k
-unfolding slipMeaning
-rows-meant bs k o e = ap (λ p. nth (from (λ l. rowsIn (l .rows)) p) k) e ∙ sym (ap (λ xs. nth xs k) (rows-from bs (slipLists bs)))
+-- the lists of a message are those that its header type has
+module _ (bs : List ℕ) (l : Lists) (s : Some l ≡ slipLists bs) (type : ℕ) (e : type ≡ told 1 bs 2) (r : Lists) (p : r ≡ chosenLists type l) where
+  pub rows-meant : rowsIn (r .rows) ≡ rowsOf (slipMeaning bs)
+  rows-meant = ap (λ m. rowsIn (m .rows)) p ∙ (rw e (rows-chosen bs l no-rows)) ∙ ap rowsOf (read-lists bs (Some l) s)
 
-pub list-meant : {A : Type 0} (list : Columns → List A) (bs : List ℕ) (k : ℕ) (o : Option Lists) → o ≡ batchLists bs → nth (from (λ l. list (columnsOf bs l)) o) k ≡ nth (listOf list (slipMeaning bs)) k
-unfolding slipMeaning
-list-meant list bs k o e = ap (λ p. nth (from (λ l. list (columnsOf bs l)) p) k) e ∙ sym (ap (λ xs. nth xs k) (list-from list bs (slipLists bs)))
+  list-meant : {A : Type 0} (items : List ℕ → List A) (list : Columns → List A) (part : List ℕ) → items [] ≡ [] → items part ≡ list (columnsOf bs l) → items (cond (eqb type 2 || eqb type 3) part []) ≡ listOf list (slipMeaning bs)
+  list-meant items list part z h =
+      (rw e (list-chosen bs l items list part z h)) ∙ ap (listOf list) (read-lists bs (Some l) s)
+
+  pub nodes-meant : nodesIn (r .nodes) ≡ nodesOf (slipMeaning bs)
+  nodes-meant = ap (λ m. nodesIn (m .nodes)) p ∙ list-meant nodesIn (λ c. c .nodes) (l .nodes) no-nodes refl
+
+  pub buffers-meant : buffersIn (r .buffers) ≡ buffersOf (slipMeaning bs)
+  buffers-meant = ap (λ m. buffersIn (m .buffers)) p ∙ list-meant buffersIn (λ c. c .buffers) (l .buffers) no-buffers refl
+
+  pub counts-meant : countsIn (r .counts) ≡ countsOf (slipMeaning bs)
+  counts-meant = ap (λ m. countsIn (m .counts)) p ∙ list-meant countsIn (λ c. c .counts) (l .counts) no-counts refl
+
+-- what is no slip has no lists
+module _ (bs : List ℕ) (s : None ≡ slipLists bs) where
+  pub rows-none : rowsIn [] ≡ rowsOf (slipMeaning bs)
+  rows-none = no-rows ∙ ap rowsOf (read-lists bs None s)
+
+  pub nodes-none : nodesIn [] ≡ nodesOf (slipMeaning bs)
+  nodes-none = no-nodes ∙ ap nodesOf (read-lists bs None s)
+
+  pub buffers-none : buffersIn [] ≡ buffersOf (slipMeaning bs)
+  buffers-none = no-buffers ∙ ap buffersOf (read-lists bs None s)
+
+  pub counts-none : countsIn [] ≡ countsOf (slipMeaning bs)
+  counts-none = no-counts ∙ ap countsOf (read-lists bs None s)

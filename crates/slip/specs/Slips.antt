@@ -83,7 +83,7 @@ columnsOf bs l = record {
 }
 
 -- by the header type
-unfoldable pub contentsOf : List ℕ → Lists → Contents
+abbrev pub contentsOf : List ℕ → Lists → Contents
 contentsOf bs l =
     let type = told 1 bs 2 in
     cond (eqb type 0) nothing

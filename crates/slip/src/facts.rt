@@ -11,6 +11,7 @@ use crate::numbers::i16_in;
 use crate::numbers::i64_in;
 use crate::numbers::u8_in;
 use crate::parts::Parts;
+use crate::rows::row_count;
 use crate::trailers::BODY;
 use crate::trailers::BUFFER;
 use crate::trailers::COUNT;
@@ -19,7 +20,6 @@ use crate::trailers::ID;
 use crate::trailers::KIND;
 use crate::trailers::LONG;
 use crate::trailers::NODE;
-use crate::trailers::ROW;
 use crate::trailers::TRAILER;
 use crate::trailers::VERSION;
 use message::BatchFacts;
@@ -50,7 +50,7 @@ fn header(bytes: &[u8], parts: Parts<'_>) -> Header
     match u8_in(bytes, trailer + KIND) {
         0 => Header::Empty,
         1 => Header::Schema {
-            rows: parts.rows.len() / ROW,
+            rows: row_count(parts.rows),
         },
         2 => Header::DictionaryBatch {
             id: i64_in(bytes, trailer + ID),

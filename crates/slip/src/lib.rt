@@ -9,8 +9,7 @@ mod trailers;
 
 use crate::facts::slip_facts;
 use crate::parts::all_parts;
-use crate::parts::batch_parts;
-use crate::parts::schema_parts;
+use crate::parts::told_parts;
 use crate::rows::row_in;
 use message::Buffer;
 use message::Facts;
@@ -37,22 +36,18 @@ pub impl Reading for Slip as SlipReading {
     }
 
     fn row(&self, bytes: &[u8], k: usize) -> Option<Row> {
-        let parts = schema_parts(bytes)?;
-        row_in(parts.rows, k)
+        row_in(told_parts(bytes).rows, k)
     }
 
     fn node(&self, bytes: &[u8], k: usize) -> Option<Node> {
-        let parts = batch_parts(bytes)?;
-        node_in(parts.nodes, k)
+        node_in(told_parts(bytes).nodes, k)
     }
 
     fn buffer(&self, bytes: &[u8], k: usize) -> Option<Buffer> {
-        let parts = batch_parts(bytes)?;
-        buffer_in(parts.buffers, k)
+        buffer_in(told_parts(bytes).buffers, k)
     }
 
     fn count(&self, bytes: &[u8], k: usize) -> Option<i64> {
-        let parts = batch_parts(bytes)?;
-        count_in(parts.counts, k)
+        count_in(told_parts(bytes).counts, k)
     }
 }

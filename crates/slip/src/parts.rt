@@ -2,9 +2,11 @@
 ghost use mathlib.Core.Path.{_≡_};
 ghost use Prim.Native.Nat.{_+_, _≤_};
 ghost use lib.ListN.{length};
-ghost use Rattle.slip.specs.Slips.{listAt, slipLists};
-ghost use Rattle.slip.specs.Chosen.{schemaLists, batchLists};
-ghost use Rattle.slip.specs.Shown.{shownPart, shownParts};
+ghost use Rattle.message.specs.Items.{nodesIn, buffersIn, countsIn};
+ghost use Rattle.message.specs.Messages.{rowsOf, nodesOf, buffersOf, countsOf};
+ghost use Rattle.slip.specs.Slips.{rowsIn, listAt, slipLists, slipMeaning};
+ghost use Rattle.slip.specs.Chosen.{chosenLists};
+ghost use Rattle.slip.specs.Shown.{listsIn, shownPart, shownParts};
 use crate::numbers::u8_in;
 use crate::numbers::u32_in;
 use crate::trailers::BUFFER;
@@ -65,24 +67,50 @@ pub(crate) fn all_parts(bytes: &[u8]) -> Option<Parts<'_>>
     })
 }
 
-// The lists of a slip that is a schema.
-pub(crate) fn schema_parts(bytes: &[u8]) -> Option<Parts<'_>>
-    ensures { λ r. ⌜ shownParts r ≡ schemaLists (now (bytes .entry)) ⌝ }
+// Of the lists those that a message of a header type has.
+fn chosen(parts: Parts<'_>, kind: u8) -> Parts<'_>
+    ensures { λ r. ⌜ listsIn r ≡ chosenLists kind (listsIn (parts .entry)) ⌝ }
 {
-    let parts = all_parts(bytes)?;
-    match u8_in(bytes, bytes.len() - TRAILER + KIND) {
-        1 => Some(parts),
-        _ => None,
+    let none = &parts.rows[..0];
+    match kind {
+        1 => Parts {
+            rows: parts.rows,
+            nodes: none,
+            buffers: none,
+            counts: none,
+        },
+        2 | 3 => Parts {
+            rows: none,
+            nodes: parts.nodes,
+            buffers: parts.buffers,
+            counts: parts.counts,
+        },
+        _ => Parts {
+            rows: none,
+            nodes: none,
+            buffers: none,
+            counts: none,
+        },
     }
 }
 
-// The lists of a slip that is a batch or a dictionary.
-pub(crate) fn batch_parts(bytes: &[u8]) -> Option<Parts<'_>>
-    ensures { λ r. ⌜ shownParts r ≡ batchLists (now (bytes .entry)) ⌝ }
+// The lists of the message, which are empty where it has none.
+pub(crate) fn told_parts(bytes: &[u8]) -> Parts<'_>
+    ensures rows { λ r. ⌜ rowsIn (now (r .rows)) ≡ rowsOf (slipMeaning (now (bytes .entry))) ⌝ }
+    ensures nodes { λ r. ⌜ nodesIn (now (r .nodes)) ≡ nodesOf (slipMeaning (now (bytes .entry))) ⌝ }
+    ensures buffers { λ r. ⌜ buffersIn (now (r .buffers)) ≡ buffersOf (slipMeaning (now (bytes .entry))) ⌝ }
+    ensures counts { λ r. ⌜ countsIn (now (r .counts)) ≡ countsOf (slipMeaning (now (bytes .entry))) ⌝ }
 {
-    let parts = all_parts(bytes)?;
-    match u8_in(bytes, bytes.len() - TRAILER + KIND) {
-        2 | 3 => Some(parts),
-        _ => None,
+    match all_parts(bytes) {
+        Some(parts) => chosen(parts, u8_in(bytes, bytes.len() - TRAILER + KIND)),
+        None => {
+            let none = &bytes[..0];
+            Parts {
+                rows: none,
+                nodes: none,
+                buffers: none,
+                counts: none,
+            }
+        }
     }
 }

@@ -1,5 +1,6 @@
 // The rows of a schema.
 ghost use mathlib.Core.Path.{_≡_};
+ghost use lib.ListN.{length};
 ghost use Rattle.message.specs.Listed.{nth};
 ghost use Rattle.slip.specs.Slips.{rowsIn};
 use crate::numbers::i64_in;
@@ -7,6 +8,13 @@ use crate::numbers::u8_in;
 use crate::numbers::u32_in;
 use crate::trailers::ROW;
 use message::Row;
+
+// How many rows a list of rows has.
+pub(crate) fn row_count(list: &[u8]) -> usize
+    ensures { λ r. ⌜ r ≡ length (rowsIn (now (list .entry))) ⌝ }
+{
+    list.len() / ROW
+}
 
 // Row k of a list of rows.
 pub(crate) fn row_in(list: &[u8], k: usize) -> Option<Row>

@@ -4,7 +4,7 @@ use mir.Val.{SFits, toZ, ofZ}
 use mir.Syntax.{w64}
 use Rattle.std.proofs.shelf.Signed.{toZ-ofZ}
 use Rattle.slip.specs.Shown.{listsIn}
-use Rattle.slip.proofs.Headed.{facts-batch}
+use Rattle.slip.proofs.Counted.{facts-batch}
 use Rattle.slip.proofs.facts.batch_facts.Needs as need
 
 pub returns : need.returns
