@@ -1,5 +1,4 @@
 pub mod Same
-pub mod Lying
 pub mod Gathered
 pub mod Counted
 pub mod Chosen

@@ -44,7 +44,7 @@ slip bs = leb 64 (length bs) && (eqb (told 4 bs 60) 0x31504c53 && leb (told 1 bs
 
 -- one of the four lists, by its place in the trailer: a count of items, and how far before the trailer it begins;
 -- it lies wholly before the trailer, and a list of no items looks at no distance
-unfoldable pub listAt : ℕ → List ℕ → ℕ → Option (List ℕ)
+abbrev pub listAt : ℕ → List ℕ → ℕ → Option (List ℕ)
 listAt width bs at =
     let count = told 4 bs at in
     let back = told 4 bs (at + 4) in
