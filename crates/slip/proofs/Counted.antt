@@ -7,7 +7,6 @@ use lib.IntN.{ℤ}
 use lib.ListN.{length}
 use mir.Val.{toZ}
 use mir.Syntax.{w64}
-use Rattle.message.specs.declared.headers.BatchFacts.{BatchFacts}
 use Rattle.message.specs.Items.{nodeAt, bufferAt, countAt}
 use Rattle.message.specs.Messages.{batchFacts}
 use Rattle.message.proofs.Listed.{length-listed}

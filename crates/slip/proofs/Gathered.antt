@@ -1,16 +1,14 @@
 -- The four lists, one after the other.
-use mathlib.Core.Path.{_≡_, refl, sym, _∙_, ap}
-use mathlib.Core.Bool.{Bool, true, false, _&&_}
-use mathlib.Core.List.{List, []}
+use mathlib.Core.Path.{_≡_, sym, _∙_}
+use mathlib.Core.Bool.{true, false, _&&_}
+use mathlib.Core.List.{List}
 use mathlib.Core.Logic.{inl, inr}
 use Prim.Native.Nat.{ℕ, _≤_}
 use native.Mathlib.Omega.{arith}
 use lib.Dec.{leb, eqb}
 use lib.ListN.{length}
-use Rattle.std.specs.declared.option.Option.{Option}
 use Rattle.std.specs.declared.option.Option.the-variants.{Some, None}
 use Rattle.std.proofs.shelf.Tests.{cases-bool, and-parts, leb-true}
-use Rattle.little.specs.Maybe.{andThen}
 use Rattle.slip.specs.Slips.{told, slip, listAt, Lists, listsOf, slipLists}
 
 pub lists-other : (bs : List ℕ) → false ≡ slip bs → None ≡ slipLists bs

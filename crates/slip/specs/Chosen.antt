@@ -1,7 +1,7 @@
 -- Of the lists of a slip those that a message of a header type has.
 use Prim.Native.Nat.{ℕ}
 use mathlib.Core.Bool.{cond, _||_}
-use mathlib.Core.List.{List, []}
+use mathlib.Core.List.{[]}
 use lib.Dec.{eqb}
 use Rattle.slip.specs.Slips.{Lists}
 

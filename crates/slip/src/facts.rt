@@ -64,6 +64,7 @@ fn header(bytes: &[u8], parts: Parts<'_>) -> Header
     }
 }
 
+// The facts of a slip that has these lists.
 pub(crate) fn slip_facts(bytes: &[u8], parts: Parts<'_>) -> Facts
     requires { ⌜ 64 ≤ length (now bytes) ⌝ }
     ensures { λ r. ⌜ Ok r ≡ factsOf (Some (messageOf (now (bytes .entry)) (listsIn (parts .entry)))) ⌝ }

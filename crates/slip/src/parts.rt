@@ -21,6 +21,7 @@ use crate::trailers::ROWS;
 use crate::trailers::TRAILER;
 use crate::trailers::is_slip;
 
+// A part for each list.
 #[derive(Clone, Copy)]
 pub(crate) struct Parts<'a> {
     pub(crate) rows: &'a [u8],
