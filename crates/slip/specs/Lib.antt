@@ -1,1 +1,3 @@
 pub mod Slips
+pub mod Chosen
+pub mod Shown

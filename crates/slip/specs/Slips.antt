@@ -3,7 +3,6 @@ use Prim.Native.Nat.{ℕ, _+_, _-_, _*_}
 use mathlib.Core.Bool.{Bool, true, false, cond, _&&_}
 use mathlib.Core.List.{List, []}
 use lib.Dec.{leb, eqb}
-use lib.IntN.{ℤ}
 use lib.ListN.{length, take, drop}
 use mir.Val.{toZ}
 use mir.Syntax.{w16, w64}
@@ -44,7 +43,7 @@ slip bs = leb 64 (length bs) && (eqb (told 4 bs 60) 0x31504c53 && leb (told 1 bs
 
 -- one of the four lists, by its place in the trailer: a count of items, and how far before the trailer it begins;
 -- it lies wholly before the trailer, and a list of no items looks at no distance
-unfoldable pub listAt : ℕ → List ℕ → ℕ → Option (List ℕ)
+abbrev pub listAt : ℕ → List ℕ → ℕ → Option (List ℕ)
 listAt width bs at =
     let count = told 4 bs at in
     let back = told 4 bs (at + 4) in
@@ -83,7 +82,7 @@ columnsOf bs l = record {
 }
 
 -- by the header type
-unfoldable pub contentsOf : List ℕ → Lists → Contents
+abbrev pub contentsOf : List ℕ → Lists → Contents
 contentsOf bs l =
     let type = told 1 bs 2 in
     cond (eqb type 0) nothing
@@ -95,6 +94,10 @@ contentsOf bs l =
 abbrev pub messageOf : List ℕ → Lists → Message
 messageOf bs l = record { version = toZ w16 (told 2 bs 0); body = toZ w64 (told 8 bs 4); contents = contentsOf bs l }
 
--- what a slip says: all four lists are looked at, whatever the header type
+-- the lists of bytes that are a slip: all four are looked at, whatever the header type
+unfoldable pub slipLists : List ℕ → Option Lists
+slipLists bs = elim (slip bs) [ true ↦ listsOf bs | false ↦ None ]
+
+-- what a slip says
 unfoldable pub slipMeaning : List ℕ → Read
-slipMeaning bs = elim (slip bs) [ true ↦ andThen (listsOf bs) (λ l. Some (messageOf bs l)) | false ↦ None ]
+slipMeaning bs = andThen (slipLists bs) (λ l. Some (messageOf bs l))

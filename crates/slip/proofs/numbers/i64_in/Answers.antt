@@ -1,0 +1,17 @@
+use borrow.Author.Needs.{needs}
+use mathlib.Core.Path.{_∙_, ap}
+use mir.Val.{SFits}
+use mir.Syntax.{w64}
+use Rattle.std.specs.Options.{isSome}
+use Rattle.std.proofs.shelf.Signed.{toZ-ofZ}
+use Rattle.little.proofs.Spelled.{signed-inside}
+use Rattle.slip.proofs.Same.{same-some}
+use Rattle.slip.proofs.numbers.i64_in.Needs as need
+
+pub unwrap-requires : need.unwrap-requires
+unwrap-requires c κs = ap isSome (c .i64-at .ensures ∙ signed-inside w64 8 (c .args .bytes .now) (c .args .at) (c .pre))
+
+pub returns : need.returns
+returns c =
+    let fits : SFits w64 (c .unwrap .result) = search needs in
+    toZ-ofZ w64 (c .unwrap .result) fits ∙ same-some (c .i64-at .result) _ _ (c .unwrap .ensures) (c .i64-at .ensures ∙ signed-inside w64 8 (c .args .bytes .now) (c .args .at) (c .pre))
