@@ -1,0 +1,7 @@
+use mathlib.Core.Path.{sym, ap, _∙_}
+use Rattle.message.specs.Listed.{nth}
+use Rattle.flatbuf.proofs.Told.{countsIn-none}
+use Rattle.flatbuf.proofs.FlatBuffersReading.count.Needs as need
+
+pub returns-in-Break-batch : need.returns-in-Break-batch
+returns-in-Break-batch c = c .from-residual .ensures ∙ ap (λ l. nth l (c .args .k)) (sym countsIn-none ∙ c .in-Break-batch .ensures tt .counts)
