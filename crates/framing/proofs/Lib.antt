@@ -1,0 +1,5 @@
+pub mod Blocks
+pub mod Gathers
+pub mod Fills
+pub mod Ways
+pub mod Frames
