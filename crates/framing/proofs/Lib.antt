@@ -3,3 +3,5 @@ pub mod Gathers
 pub mod Fills
 pub mod Ways
 pub mod Frames
+pub mod Shown
+pub mod RunOf
