@@ -5,3 +5,5 @@ pub mod Ways
 pub mod Frames
 pub mod Shown
 pub mod RunOf
+pub mod OpeningOf
+pub mod Stands

@@ -1,0 +1,117 @@
+// The calls of a decoder of frames.
+ghost use mathlib.Core.Path.{_≡_};
+ghost use mathlib.Core.List.{_++_};
+ghost use Prim.Native.Nat.{_+_, _<_, _≤_};
+ghost use lib.ListN.{length, take};
+ghost use Rattle.message.specs.Messages.{factsOf};
+ghost use Rattle.framing.specs.Frames.{atMost, behind, opening};
+ghost use Rattle.framing.specs.Runs.{Opens};
+ghost use Rattle.framing.specs.Turns.{openingIn, Stops, Sized, Opened, Gathered, Filled, Turns};
+ghost use Rattle.framing.specs.Views.{Advances, Ends};
+use crate::events::Event;
+use crate::events::FrameHead;
+use crate::events::Step;
+use crate::state::DecoderState;
+use crate::state::FrameDecoder;
+use little::u32_at;
+use message::Facts;
+use message::Fault;
+use message::Place;
+use message::Reading;
+use message::Refusal;
+
+// Where the frame behind one of `n` bytes stands.
+fn behind(place: Place, n: usize) -> Place
+    ensures { λ r. ⌜ r ≡ behind place n ⌝ }
+{
+    Place {
+        message: place.message.wrapping_add(1),
+        position: place.position.wrapping_add(n as u64),
+    }
+}
+
+// How many bytes open a frame.
+fn opening(marked: bool) -> usize
+    ensures { λ r. ⌜ r ≡ opening marked ⌝ }
+{
+    if marked {
+        8
+    } else {
+        4
+    }
+}
+
+// Whether the bytes open with the continuation marker, and the size, if it is there.
+fn opening_in(bytes: &[u8]) -> (bool, Option<u32>)
+    ensures { λ r. ⌜ r ≡ openingIn (now (bytes .entry)) ⌝ }
+{
+    match bytes {
+        [0xff, 0xff, 0xff, 0xff, rest @ ..] => (true, u32_at(rest, 0)),
+        _ => (false, u32_at(bytes, 0)),
+    }
+}
+
+// The length of the body that follows, if its hold has room for it.
+fn body_length(facts: &Facts, hold: usize) -> Option<usize>
+    ensures { λ r. ⌜ r ≡ atMost hold (now (facts .entry) .body) ⌝ }
+{
+    if facts.body < 0 || facts.body as u64 > hold as u64 {
+        return None;
+    }
+    Some(facts.body as usize)
+}
+
+// The first `n` bytes of the rest go into the hold, behind the `got` that are there.
+fn fill(hold: &mut [u8], got: usize, rest: &[u8], n: usize)
+    requires fits { ⌜ got + n ≤ length (now hold) ⌝ }
+    requires within { ⌜ n ≤ length (now rest) ⌝ }
+    ensures { λ _. ⌜ take (got + n) (now (hold .exit)) ≡ take got (now (hold .entry)) ++ take n (now (rest .entry)) ⌝ }
+{
+    hold[got..got + n].copy_from_slice(&rest[..n]);
+}
+
+impl FrameDecoder {
+    // Opens a decoder for holds of these lengths.
+    pub fn new(metadata: usize, body: usize) -> Result<FrameDecoder, Fault>
+        ensures { λ r. ⌜ Opens (record { metadata = metadata; body = body }) r ⌝ }
+    {
+        if metadata == 0 || metadata > 1048576 || body > 16777216 {
+            return Err(Refusal::Lengths.bare());
+        }
+        Ok(FrameDecoder {
+            metadata,
+            body,
+            state: DecoderState::Header {
+                bytes: [0; 8],
+                got: 0,
+            },
+            place: Place {
+                message: 0,
+                position: 0,
+            },
+        })
+    }
+
+    // Whether the stream may stop here.
+    pub fn check_end(&self) -> Result<(), Fault>
+        ensures { λ r. ⌜ Ends (now (self .entry)) r ⌝ }
+    {
+        match self.state {
+            DecoderState::Header { got, .. } if got > 0 => Err(Refusal::Unfinished.bare()),
+            DecoderState::Header { .. } | DecoderState::Finished => Ok(()),
+            DecoderState::Message { .. } | DecoderState::Body { .. } => {
+                Err(Refusal::Unfinished.bare())
+            }
+            DecoderState::Stopped { fault } => Err(fault),
+        }
+    }
+
+    // Stops the decoder by a refusal of the frame.
+    fn stop(&mut self, refusal: Refusal) -> Fault
+        ensures { λ r. ⌜ Stops refusal (now (self .entry)) r (now (self .exit)) ⌝ }
+    {
+        let fault = refusal.of_frame(self.place);
+        self.state = DecoderState::Stopped { fault };
+        fault
+    }
+}
