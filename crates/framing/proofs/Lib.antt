@@ -7,3 +7,4 @@ pub mod Shown
 pub mod RunOf
 pub mod OpeningOf
 pub mod Stands
+pub mod MovesOf

@@ -62,7 +62,7 @@ Opened got d r d′ = (m b : List ℕ) → Moves (opened (holdsOf d) (d .place) 
 
 -- the first bytes of the metadata's hold, whatever the other has
 abbrev pub Gathered : Envelope → List ℕ → Bool → ℕ → ℕ → FrameDecoder → Result (Option Event) Fault → FrameDecoder → Type 0
-Gathered e m marked n got d r d′ = (b : List ℕ) → Moves (gathered (holdsOf d) e (d .place) marked n (take got m)) d r d′ m b
+Gathered e m marked n got d r d′ = (b : List ℕ) → length b ≡ d .body → Moves (gathered (holdsOf d) e (d .place) marked n (take got m)) d r d′ m b
 
 -- the first bytes of the body's hold
 abbrev pub Filled : Bool → ℕ → Facts → ℕ → ℕ → FrameDecoder → Option Event → FrameDecoder → Type 0

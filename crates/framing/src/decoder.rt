@@ -114,4 +114,107 @@ impl FrameDecoder {
         self.state = DecoderState::Stopped { fault };
         fault
     }
+
+    // The size that an opening ends with: the end mark, or so many bytes of metadata.
+    fn sized(&mut self, marked: bool, size: usize) -> Result<Option<Event>, Fault>
+        ensures { λ r. ⌜ Sized marked size (now (self .entry)) r (now (self .exit)) ⌝ }
+    {
+        if size == 0 {
+            let place = self.place;
+            self.place = behind(place, opening(marked));
+            self.state = DecoderState::Finished;
+            return Ok(Some(Event::End { place }));
+        }
+        if size > self.metadata {
+            return Err(self.stop(Refusal::MetadataSize));
+        }
+        self.state = DecoderState::Message {
+            marked,
+            size,
+            got: 0,
+        };
+        Ok(None)
+    }
+
+    // The first `got` bytes of an opening, whole or not.
+    fn opened(&mut self, bytes: [u8; 8], got: usize) -> Result<Option<Event>, Fault>
+        requires { ⌜ got ≤ 8 ⌝ }
+        ensures { λ r. ⌜ Opened (take got bytes) (now (self .entry)) r (now (self .exit)) ⌝ }
+    {
+        let (marked, number) = opening_in(&bytes[..got]);
+        let Some(size) = number else {
+            self.state = DecoderState::Header { bytes, got };
+            return Ok(None);
+        };
+        self.sized(marked, size as usize)
+    }
+
+    // The first `got` bytes of a body of `length`, whole or not.
+    fn filled(
+        &mut self,
+        marked: bool,
+        size: usize,
+        facts: Facts,
+        length: usize,
+        got: usize,
+    ) -> Option<Event>
+        requires size { ⌜ size ≤ now self .metadata ⌝ }
+        requires length { ⌜ length ≤ now self .body ⌝ }
+        requires got { ⌜ got ≤ length ⌝ }
+        ensures { λ r. ⌜ Filled marked size facts length got (now (self .entry)) r (now (self .exit)) ⌝ }
+    {
+        if got < length {
+            self.state = DecoderState::Body {
+                marked,
+                size,
+                facts,
+                length,
+                got,
+            };
+            return None;
+        }
+        let place = self.place;
+        self.place = behind(place, opening(marked) + (size + length));
+        self.state = DecoderState::Header {
+            bytes: [0; 8],
+            got: 0,
+        };
+        let body = length;
+        Some(Event::Frame {
+            head: FrameHead {
+                place,
+                marked,
+                size,
+                body,
+                facts,
+            },
+        })
+    }
+
+    // The first `got` bytes of metadata of `size`, whole or not.
+    fn gathered<R: Reading>(
+        &mut self,
+        reading: &R,
+        metadata: &[u8],
+        marked: bool,
+        size: usize,
+        got: usize,
+    ) -> Result<Option<Event>, Fault>
+        requires own { ⌜ length (now metadata) ≡ now self .metadata ⌝ }
+        requires size { ⌜ size ≤ now self .metadata ⌝ }
+        requires got { ⌜ got ≤ size ⌝ }
+        ensures { λ r. ⌜ Gathered (λ bs. factsOf (meaning (now (reading .entry)) bs)) (now (metadata .entry)) marked size got (now (self .entry)) r (now (self .exit)) ⌝ }
+    {
+        if got < size {
+            self.state = DecoderState::Message { marked, size, got };
+            return Ok(None);
+        }
+        let Ok(facts) = reading.facts(&metadata[..size]) else {
+            return Err(self.stop(Refusal::Metadata));
+        };
+        let Some(length) = body_length(&facts, self.body) else {
+            return Err(self.stop(Refusal::BodyLength));
+        };
+        Ok(self.filled(marked, size, facts, length, 0))
+    }
 }
