@@ -113,9 +113,9 @@ module _ (h : Holds) (e : Envelope) (p : Place) (bs : List ℕ) (k : ℕ) (is : 
         more = elim (cases-lt (length (l .front)) 4) [
           | inl j ↦ omega (arith, b .0)
           | inr j ↦
-            let m : marks (l .front) ≡ marks bs = sym (marks-front (l .front) (l .byte ∷ []) j) ∙ ap marks (sym (l .is)) ∙ marked in
-            let o = ap opening m in
-            omega (arith, l .long)
+              let m : marks (l .front) ≡ marks bs = sym (marks-front (l .front) (l .byte ∷ []) j) ∙ ap marks (sym (l .is)) ∙ marked in
+              let o = ap opening m in
+              omega (arith, l .long)
         ];
       }
 

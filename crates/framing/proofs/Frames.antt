@@ -123,14 +123,14 @@ module _ (h : Holds) (e : Envelope) where
       size-after = elim (cases-eq n 0) [
         | inl z ↦ after-by _ _ rest _ _ (sized-end h p marked n z) (size-end h e p marked n rest z) (ap (also (end p)) (after-end (behind p (opening marked)) rest ∙ ap (afterEnd (behind p (opening marked))) (sym is)))
         | inr z ↦
-          let some : 0 < n = omega arith in
-          elim (cases-lt (h .metadata) n) [
-            | inl k ↦ after-by _ _ rest _ _ (sized-large h p marked n some k) (size-large h e p marked n rest some k) refl
-            | inr k ↦ elim (cases-lt (length rest) n) [
-              | inl c ↦ after-by _ _ rest _ _ (sized-fits h p marked n some k) (size-cut h e p marked n rest some k c) (metadata-short c)
-              | inr c ↦ after-by _ _ rest _ _ (sized-fits h p marked n some k) (size-fits h e p marked n rest some k c) (metadata-full some c)
+            let some : 0 < n = omega arith in
+            elim (cases-lt (h .metadata) n) [
+              | inl k ↦ after-by _ _ rest _ _ (sized-large h p marked n some k) (size-large h e p marked n rest some k) refl
+              | inr k ↦ elim (cases-lt (length rest) n) [
+                | inl c ↦ after-by _ _ rest _ _ (sized-fits h p marked n some k) (size-cut h e p marked n rest some k c) (metadata-short c)
+                | inr c ↦ after-by _ _ rest _ _ (sized-fits h p marked n some k) (size-fits h e p marked n rest some k c) (metadata-full some c)
+              ]
             ]
-          ]
       ]
 
     -- the opening, whole or cut short
@@ -139,9 +139,9 @@ module _ (h : Holds) (e : Envelope) where
     opening-after some = elim (cases-lt (length bs) (opening (marks bs))) [
       | inl k ↦ ap streamOf (acts-all (header p []) bs (on (header p bs)) (opening-cut h e p bs (record { more = k }))) ∙ inside p bs some ∙ sym (ap (followed later p bs) (first-cut h e p bs k))
       | inr k ↦
-        ap streamOf (acts-front (header p []) (opening (marks bs)) bs (sized h p (marks bs) (sizeOf bs)) (opening-all h e p bs (opening (marks bs)) refl k))
-        ∙ size-after (marks bs) (sizeOf bs) (drop (opening (marks bs)) bs) refl
-        ∙ sym (ap (followed later p bs) (first-sized h e p bs k))
+          ap streamOf (acts-front (header p []) (opening (marks bs)) bs (sized h p (marks bs) (sizeOf bs)) (opening-all h e p bs (opening (marks bs)) refl k))
+          ∙ size-after (marks bs) (sizeOf bs) (drop (opening (marks bs)) bs) refl
+          ∙ sym (ap (followed later p bs) (first-sized h e p bs k))
     ]
 
   pub framed : (most : ℕ) (bs : List ℕ) (p : Place) → length bs < most → streamOf (whole (step h e) (header p []) bs) ≡ frames h e most p bs

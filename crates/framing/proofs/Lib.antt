@@ -8,3 +8,5 @@ pub mod RunOf
 pub mod OpeningOf
 pub mod Stands
 pub mod MovesOf
+pub mod TurnOf
+pub mod AdvanceOf

@@ -53,10 +53,10 @@ module _ (bs : List ℕ) (marked : Bool) (number : Option ℕ) (is : (marked, nu
         more = elim (cases-lt (length bs) (opening (marks bs))) [
           | inl k ↦ k
           | inr k ↦
-            let e = number-inside 4 bs (opening (marks bs) - 4) (omega (arith, b .0)) in
-            let f = found in
-            let z : _≡_ {A = ℕ} 0 1 = cc in
-            absurd (omega arith)
+              let e = number-inside 4 bs (opening (marks bs) - 4) (omega (arith, b .0)) in
+              let f = found in
+              let z : _≡_ {A = ℕ} 0 1 = cc in
+              absurd (omega arith)
         ];
       }
 
@@ -67,13 +67,13 @@ module _ (bs : List ℕ) (marked : Bool) (number : Option ℕ) (is : (marked, nu
       let m : marked ≡ marks bs = ap (λ p. p .0) is in
       elim (cases-lt (length bs) (opening (marks bs))) [
         | inl k ↦
-          let e = number-outside 4 bs (opening (marks bs) - 4) (omega (arith, b .0)) in
-          let z : _≡_ {A = ℕ} 0 1 = cc in
-          absurd (omega arith)
+            let e = number-outside 4 bs (opening (marks bs) - 4) (omega (arith, b .0)) in
+            let z : _≡_ {A = ℕ} 0 1 = cc in
+            absurd (omega arith)
         | inr k ↦
-          let e = number-inside 4 bs (opening (marks bs) - 4) (omega (arith, b .0)) in
-          let s : n ≡ sizeOf bs = cc in
-          opening-whole h p bs k ∙ ap (λ t. sized h p t (sizeOf bs)) (sym m) ∙ ap (sized h p marked) (sym s)
+            let e = number-inside 4 bs (opening (marks bs) - 4) (omega (arith, b .0)) in
+            let s : n ≡ sizeOf bs = cc in
+            opening-whole h p bs k ∙ ap (λ t. sized h p t (sizeOf bs)) (sym m) ∙ ap (sized h p marked) (sym s)
       ]
 
 pub opening-more : (d d′ : FrameDecoder) (bytes : List ℕ) (got : ℕ) → Opening (take got bytes) → Kept d d′ → d′ .state ≡ Header bytes got → d′ .place ≡ d .place → Opened (take got bytes) d (Ok None) d′
@@ -119,5 +119,5 @@ metadata-whole e d d′ m marked size got facts n o own fits full told-ok some m
     let l : length (take got m) ≡ size = length-take-le got m (omega arith) ∙ full in
     let k = at-most (d .body) n (facts .body) some in
     let v : gathered h e p marked size (take got m) ≡ filled p marked (take size m) facts n [] =
-        gathered-all h e p marked size (take got m) l ∙ ap (λ j. told h p marked (take j m) (e (take j m))) full ∙ ap (told h p marked (take size m)) told-ok ∙ ap (bodied p marked (take size m) facts) some in
+    gathered-all h e p marked size (take got m) l ∙ ap (λ j. told h p marked (take j m) (e (take j m))) full ∙ ap (told h p marked (take size m)) told-ok ∙ ap (bodied p marked (take size m) facts) some in
     subst (λ w. Moves w d (Ok o) d′ m b) (sym v) (moved m b (omega arith) (omega arith))

@@ -24,7 +24,7 @@ behind-four xs h =
     elim (cases-lt (length xs) 8) [
       | inl k ↦ number-outside 4 (drop 4 xs) 0 (omega arith) ∙ sym (number-outside 4 xs 4 (omega arith))
       | inr k ↦
-        number-inside 4 (drop 4 xs) 0 (omega arith) ∙ ap (λ ys. Some (le (take 4 ys))) (drop-drop 0 4 xs) ∙ sym (number-inside 4 xs 4 (omega arith))
+          number-inside 4 (drop 4 xs) 0 (omega arith) ∙ ap (λ ys. Some (le (take 4 ys))) (drop-drop 0 4 xs) ∙ sym (number-inside 4 xs 4 (omega arith))
     ]
 
 -- fewer than four bytes have no marker

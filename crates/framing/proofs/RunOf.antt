@@ -19,8 +19,7 @@ module _ (h : Holds) (e : Envelope) where
   follows (advances p r m′ b′ ∷ cs) d m b is l k run =
       let own : Own d m b = (l ∙ sym (ap (λ t. t .metadata) is), k ∙ sym (ap (λ t. t .body) is)) in
       let came = run .1 .own own in
-      let w : advanced (holdsOf d) e (standOf d m b) p ≡ advanced h e (standOf d m b) p = ap (λ t. advanced t e (standOf d m b) p) is in
-      (
+      let w : advanced (holdsOf d) e (standOf d m b) p ≡ advanced h e (standOf d m b) p = ap (λ t. advanced t e (standOf d m b) p) is in (
         came .answer ∙ ap (answered p) w,
         subst (λ t. Held t m′ b′) w (came .held),
         subst (λ s. Follows h e s cs) (came .stand ∙ ap standing w) (follows cs (run .0) m′ b′ (came .holds ∙ is) (run .1 .metadataLength ∙ l) (run .1 .bodyLength ∙ k) (run .2)),

@@ -7,7 +7,7 @@ ghost use Rattle.message.specs.Messages.{factsOf};
 ghost use Rattle.framing.specs.Frames.{atMost, behind, opening};
 ghost use Rattle.framing.specs.Runs.{Opens};
 ghost use Rattle.framing.specs.Turns.{openingIn, Stops, Sized, Opened, Gathered, Filled, Turns};
-ghost use Rattle.framing.specs.Views.{Advances, Ends};
+ghost use Rattle.framing.specs.Views.{Own, Advances, Ends};
 use crate::events::Event;
 use crate::events::FrameHead;
 use crate::events::Step;
@@ -34,11 +34,7 @@ fn behind(place: Place, n: usize) -> Place
 fn opening(marked: bool) -> usize
     ensures { λ r. ⌜ r ≡ opening marked ⌝ }
 {
-    if marked {
-        8
-    } else {
-        4
-    }
+    if marked { 8 } else { 4 }
 }
 
 // Whether the bytes open with the continuation marker, and the size, if it is there.
@@ -90,6 +86,32 @@ impl FrameDecoder {
                 position: 0,
             },
         })
+    }
+
+    // Takes bytes of the piece until a frame is whole, a byte is refused or the piece is used up.
+    pub fn advance<R: Reading>(
+        &mut self,
+        reading: &R,
+        metadata: &mut [u8],
+        body: &mut [u8],
+        piece: &[u8],
+    ) -> Result<Step, Fault>
+        ensures { λ r. ⌜ Advances (λ bs. factsOf (meaning (now (reading .entry)) bs)) (now (self .entry)) (now (metadata .entry)) (now (body .entry)) (now (piece .entry)) r (now (self .exit)) (now (metadata .exit)) (now (body .exit)) ⌝ }
+    {
+        if metadata.len() != self.metadata || body.len() != self.body {
+            return Err(Refusal::Lengths.bare());
+        }
+        let mut used = 0;
+        loop {
+            let turn = self.turn(reading, metadata, body, &piece[used..])?;
+            used += turn.used;
+            if turn.event.is_some() || used == piece.len() {
+                return Ok(Step {
+                    used,
+                    event: turn.event,
+                });
+            }
+        }
     }
 
     // Whether the stream may stop here.
@@ -216,5 +238,52 @@ impl FrameDecoder {
             return Err(self.stop(Refusal::BodyLength));
         };
         Ok(self.filled(marked, size, facts, length, 0))
+    }
+
+    // One turn: a byte of an opening, what there is of metadata or of a body, or the refusal of a byte behind the end.
+    fn turn<R: Reading>(
+        &mut self,
+        reading: &R,
+        metadata: &mut [u8],
+        body: &mut [u8],
+        rest: &[u8],
+    ) -> Result<Step, Fault>
+        requires { ⌜ Own (now self) (now metadata) (now body) ⌝ }
+        ensures { λ r. ⌜ Turns (λ bs. factsOf (meaning (now (reading .entry)) bs)) (now (self .entry)) (now (metadata .entry)) (now (body .entry)) (now (rest .entry)) r (now (self .exit)) (now (metadata .exit)) (now (body .exit)) ⌝ }
+    {
+        match (self.state, rest) {
+            (DecoderState::Header { mut bytes, got }, [b, ..]) => {
+                bytes[got] = *b;
+                let event = self.opened(bytes, got + 1)?;
+                Ok(Step { used: 1, event })
+            }
+            (DecoderState::Message { marked, size, got }, _) => {
+                let used = (size - got).min(rest.len());
+                fill(metadata, got, rest, used);
+                let event = self.gathered(reading, metadata, marked, size, got + used)?;
+                Ok(Step { used, event })
+            }
+            (
+                DecoderState::Body {
+                    marked,
+                    size,
+                    facts,
+                    length,
+                    got,
+                },
+                _,
+            ) => {
+                let used = (length - got).min(rest.len());
+                fill(body, got, rest, used);
+                let event = self.filled(marked, size, facts, length, got + used);
+                Ok(Step { used, event })
+            }
+            (DecoderState::Finished, [_, ..]) => Err(self.stop(Refusal::BehindEnd)),
+            (DecoderState::Stopped { fault }, _) => Err(fault),
+            (_, []) => Ok(Step {
+                used: 0,
+                event: None,
+            }),
+        }
     }
 }
