@@ -35,6 +35,9 @@ pub record Sofar (e : Envelope) (h : Holds) (s : Stand) (piece : List ℕ) (used
 pub none-so-far : (e : Envelope) (d : FrameDecoder) (m b piece : List ℕ) → Own d m b → Sofar e (holdsOf d) (standOf d m b) piece 0 d m b
 none-so-far e d m b piece own = record { within = omega arith; moved = refl; kept = refl; own = own }
 
+same-step : (n k : ℕ) (x y : Event) → n ≡ k → x ≡ y → _≡_ {A = Result Step Fault} (Ok (record { used = n; event = Some x })) (Ok (record { used = k; event = Some y }))
+same-step n k x y e f = ap (λ j. Ok (record { used = j; event = Some x })) e ∙ ap (λ j. Ok (record { used = k; event = Some j })) f
+
 module _ (e : Envelope) (d : FrameDecoder) (m b piece : List ℕ) (used : ℕ) (own : Own d m b) where
   abbrev h : Holds
   h = holdsOf d
@@ -99,9 +102,10 @@ module _ (e : Envelope) (d : FrameDecoder) (m b piece : List ℕ) (used : ℕ) (
         let next : advanced h e (standOf t k l) (drop used piece) ≡ showed y (standOf d′ m′ b′) (drop u (drop used piece)) = at-rest (λ g xs. advanced g e (standOf t k l) xs ≡ showed y (standOf d′ m′ b′) (drop u xs)) (on .1) in
         let n = length-drop (used + u) piece in
         let le′ = within′ u le in
+        let all : advanced h e (standOf d m b) piece ≡ showed y (standOf d′ m′ b′) (drop (used + u) piece) = so .moved ∙ next ∙ ap (showed y (standOf d′ m′ b′)) (drop-drop u used piece) in
         let count : used + u ≡ length piece - length (drop (used + u) piece) = omega arith in
-        came (showed y (standOf d′ m′ b′) (drop (used + u) piece)) d′ m′ b′ _ (so .moved ∙ next ∙ ap (showed y (standOf d′ m′ b′)) (drop-drop u used piece))
-        (ap (λ j. Ok (record { used = j; event = Some x })) count ∙ ap (λ j. Ok (record { used = length piece - length (drop (used + u) piece); event = Some j })) (on .2)) refl (on .3) holds same same′
+        came (showed y (standOf d′ m′ b′) (drop (used + u) piece)) d′ m′ b′ _ all
+        (same-step (used + u) (length piece - length (drop (used + u) piece)) x (eventOf y) count (on .2)) refl (on .3) holds same same′
 
     -- the last turn
     pub ends-with : (u : ℕ) (o : Option Event) (some : Bool) → some ≡ isSome o → (some ≡ true) ⊎ ((some ≡ false) × (used + u ≡ length piece)) → Turns e t k l rest (Ok (record { used = u; event = o })) d′ m′ b′ → Advances e d m b piece (Ok (record { used = used + u; event = o })) d′ m′ b′

@@ -76,14 +76,14 @@ module _ (bs : List ℕ) (marked : Bool) (number : Option ℕ) (is : (marked, nu
             opening-whole h p bs k ∙ ap (λ t. sized h p t (sizeOf bs)) (sym m) ∙ ap (sized h p marked) (sym s)
       ]
 
-pub opening-more : (d d′ : FrameDecoder) (bytes : List ℕ) (got : ℕ) → Opening (take got bytes) → Kept d d′ → d′ .state ≡ Header bytes got → d′ .place ≡ d .place → Opened (take got bytes) d (Ok None) d′
-opening-more d d′ bytes got more kept is place m b = record {
-  by = opening-some (holdsOf d) (d .place) (take got bytes) more ∙ ap (λ p. on (header p (take got bytes))) (sym place) ∙ ap on (sym (stand-at d′ m b (Header bytes got) is));
+pub opening-more : (d d′ : FrameDecoder) (bytes bs : List ℕ) (got : ℕ) → take got bytes ≡ bs → Opening (take got bytes) → Kept d d′ → d′ .state ≡ Header bytes got → d′ .place ≡ d .place → Opened bs d (Ok None) d′
+opening-more d d′ bytes bs got at more kept is place m b = record {
+  by = ap (opened (holdsOf d) (d .place)) (sym at) ∙ opening-some (holdsOf d) (d .place) (take got bytes) more ∙ ap (λ p. on (header p (take got bytes))) (sym place) ∙ ap on (sym (stand-at d′ m b (Header bytes got) is));
   kept = kept;
 }
 
-pub opening-sized : (d d′ : FrameDecoder) (bs : List ℕ) (marked : Bool) (n : ℕ) (r : Result (Option Event) Fault) → opened (holdsOf d) (d .place) bs ≡ sized (holdsOf d) (d .place) marked n → Sized marked n d r d′ → Opened bs d r d′
-opening-sized d d′ bs marked n r e s m b = subst (λ v. Moves v d r d′ m b) (sym e) (s m b)
+pub opening-sized : (d d′ : FrameDecoder) (got bs : List ℕ) (marked : Bool) (n : ℕ) (r : Result (Option Event) Fault) → got ≡ bs → opened (holdsOf d) (d .place) got ≡ sized (holdsOf d) (d .place) marked n → Sized marked n d r d′ → Opened bs d r d′
+opening-sized d d′ got bs marked n r at e s m b = subst (λ v. Moves v d r d′ m b) (sym e ∙ ap (opened (holdsOf d) (d .place)) at) (s m b)
 
 -- a body that is whole
 pub frame-whole : (d d′ : FrameDecoder) (marked : Bool) (size : ℕ) (facts : Facts) (n got : ℕ) → got ≡ n → Kept d d′ → (bytes : List ℕ) → d′ .state ≡ Header bytes 0 → d′ .place ≡ behind (d .place) (opening marked + (size + n)) → Filled marked size facts n got d (Some (FrameEvent (record { place = d .place; marked = marked; size = size; body = n; facts = facts }))) d′

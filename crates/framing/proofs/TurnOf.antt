@@ -5,8 +5,8 @@ use mathlib.Core.Bool.{Bool}
 use Prim.Native.Nat.{ℕ, _+_, _-_, _<_, _≤_}
 use native.Mathlib.Omega.{arith}
 use lib.Dec.{lit<}
-use lib.ListN.{length, getD, set, take, drop, take-append-drop}
-use Rattle.std.proofs.shelf.Lists.{length-take-le, take-more-set}
+use lib.ListN.{length, getD, take, drop, take-append-drop}
+use Rattle.std.proofs.shelf.Lists.{length-take-le}
 use Rattle.std.specs.declared.option.Option.{Option}
 use Rattle.std.specs.declared.option.Option.the-variants.{Some, None}
 use Rattle.std.specs.declared.result.Result.{Result}
@@ -69,20 +69,16 @@ front-one [] some = absurd (omega arith)
 front-one (x ∷ rest) some = refl
 
 -- a byte of an opening
-pub opening-turn : (e : Envelope) (d : FrameDecoder) (m b rest bytes : List ℕ) (got : ℕ) → 0 < length rest → d .state ≡ Header bytes got → got < length bytes → Acted e d m b rest 1 (opened (holdsOf d) (d .place) (take (got + 1) (set bytes got (getD rest 0 0))))
-opening-turn e d m b rest bytes got some is room =
-    let more = take-more-set bytes got (getD rest 0 0) room in
-    let one = opening-byte (holdsOf d) e (d .place) (take got bytes) (getD rest 0 0) in
-    let acts : Acts (step (holdsOf d) e) (header (d .place) (take got bytes)) (take 1 rest) (opened (holdsOf d) (d .place) (take (got + 1) (set bytes got (getD rest 0 0)))) = ap (goes (step (holdsOf d) e) (header (d .place) (take got bytes))) (front-one rest some) ∙ one ∙ ap (λ l. wentOn [] quiet (opened (holdsOf d) (d .place) l)) (sym more) in
-    record {
-      stand = header (d .place) (take got bytes);
-      is = stand-at d m b (Header bytes got) is;
-      live = tt;
-      acts = acts;
-      stops = opened-stops (holdsOf d) (d .place) (take (got + 1) (set bytes got (getD rest 0 0)));
-      within = some;
-      some = λ k. lit< tt;
-    }
+pub opening-turn : (e : Envelope) (d : FrameDecoder) (m b rest bytes : List ℕ) (got : ℕ) → 0 < length rest → d .state ≡ Header bytes got → Acted e d m b rest 1 (opened (holdsOf d) (d .place) (take got bytes ++ getD rest 0 0 ∷ []))
+opening-turn e d m b rest bytes got some is = record {
+  stand = header (d .place) (take got bytes);
+  is = stand-at d m b (Header bytes got) is;
+  live = tt;
+  acts = ap (goes (step (holdsOf d) e) (header (d .place) (take got bytes))) (front-one rest some) ∙ opening-byte (holdsOf d) e (d .place) (take got bytes) (getD rest 0 0);
+  stops = opened-stops (holdsOf d) (d .place) (take got bytes ++ getD rest 0 0 ∷ []);
+  within = some;
+  some = λ k. lit< tt;
+}
 
 -- some of the metadata, or all
 pub metadata-turn : (e : Envelope) (d : FrameDecoder) (m b m′ rest : List ℕ) (marked : Bool) (size got n : ℕ) → d .state ≡ Message marked size got → got < size → size ≤ length m → n ≤ length rest → got + n ≤ size → (0 < length rest → 0 < n) → take (got + n) m′ ≡ take got m ++ take n rest → Acted e d m b rest n (gathered (holdsOf d) e (d .place) marked size (take (got + n) m′))

@@ -1,5 +1,5 @@
 -- What the parts of a decoder do: an opening, metadata, a body, one turn.
-use Prim.Native.Nat.{ℕ, _+_, _-_, _<_, _≤_}
+use Prim.Native.Nat.{ℕ, _+_, _-_, _<_, _≤_, min}
 use mathlib.Core.Bool.{Bool}
 use mathlib.Core.List.{List, [], _++_}
 use mathlib.Core.Path.{_≡_}
@@ -27,6 +27,11 @@ use Rattle.framing.specs.Views.{standOf, holdsOf}
 -- whether bytes open with the marker, and the size, where it is there whole
 abbrev pub openingIn : List ℕ → Bool × Option ℕ
 openingIn bs = (marks bs, numberAt 4 bs (opening (marks bs) - 4))
+
+-- bytes of the rest go into a hold, behind those that are there, until it has `most`
+pub record Fills (m : List ℕ) (got most : ℕ) (rest : List ℕ) (n : ℕ) (m′ : List ℕ) : Type 0 where
+  pub count : n ≡ min (most - got) (length rest)
+  pub front : take (got + n) m′ ≡ take got m ++ take n rest
 
 -- the holds keep their lengths
 pub record Kept (d d′ : FrameDecoder) : Type 0 where

@@ -1,15 +1,16 @@
 // The calls of a decoder of frames.
 ghost use mathlib.Core.Path.{_≡_};
-ghost use mathlib.Core.List.{_++_};
+ghost use mathlib.Core.List.{[], _∷_, _++_};
 ghost use Prim.Native.Nat.{_+_, _<_, _≤_};
 ghost use lib.ListN.{length, take};
 ghost use Rattle.message.specs.Messages.{factsOf};
 ghost use Rattle.framing.specs.Frames.{atMost, behind, opening};
 ghost use Rattle.framing.specs.Runs.{Opens};
-ghost use Rattle.framing.specs.Turns.{openingIn, Stops, Sized, Opened, Gathered, Filled, Turns};
+ghost use Rattle.framing.specs.Turns.{openingIn, Fills, Stops, Sized, Opened, Gathered, Filled, Turns};
 ghost use Rattle.framing.specs.Views.{Own, Advances, Ends};
 use crate::events::Event;
 use crate::events::FrameHead;
+use crate::events::NO_STEP;
 use crate::events::Step;
 use crate::state::DecoderState;
 use crate::state::FrameDecoder;
@@ -57,13 +58,15 @@ fn body_length(facts: &Facts, hold: usize) -> Option<usize>
     Some(facts.body as usize)
 }
 
-// The first `n` bytes of the rest go into the hold, behind the `got` that are there.
-fn fill(hold: &mut [u8], got: usize, rest: &[u8], n: usize)
-    requires fits { ⌜ got + n ≤ length (now hold) ⌝ }
-    requires within { ⌜ n ≤ length (now rest) ⌝ }
-    ensures { λ _. ⌜ take (got + n) (now (hold .exit)) ≡ take got (now (hold .entry)) ++ take n (now (rest .entry)) ⌝ }
+// Bytes of the rest go into the hold, behind the `got` that are there, until it has `most`; how many they are.
+fn fill(hold: &mut [u8], got: usize, most: usize, rest: &[u8]) -> usize
+    requires most { ⌜ most ≤ length (now hold) ⌝ }
+    requires got { ⌜ got ≤ most ⌝ }
+    ensures { λ r. ⌜ Fills (now (hold .entry)) got most (now (rest .entry)) r (now (hold .exit)) ⌝ }
 {
+    let n = (most - got).min(rest.len());
     hold[got..got + n].copy_from_slice(&rest[..n]);
+    n
 }
 
 impl FrameDecoder {
@@ -158,11 +161,13 @@ impl FrameDecoder {
         Ok(None)
     }
 
-    // The first `got` bytes of an opening, whole or not.
-    fn opened(&mut self, bytes: [u8; 8], got: usize) -> Result<Option<Event>, Fault>
-        requires { ⌜ got ≤ 8 ⌝ }
-        ensures { λ r. ⌜ Opened (take got bytes) (now (self .entry)) r (now (self .exit)) ⌝ }
+    // The `got` bytes of an opening that are there and one more, whole or not.
+    fn opened(&mut self, mut bytes: [u8; 8], got: usize, b: u8) -> Result<Option<Event>, Fault>
+        requires { ⌜ got < 8 ⌝ }
+        ensures { λ r. ⌜ Opened (take got bytes ++ b ∷ []) (now (self .entry)) r (now (self .exit)) ⌝ }
     {
+        bytes[got] = b;
+        let got = got + 1;
         let (marked, number) = opening_in(&bytes[..got]);
         let Some(size) = number else {
             self.state = DecoderState::Header { bytes, got };
@@ -201,13 +206,12 @@ impl FrameDecoder {
             bytes: [0; 8],
             got: 0,
         };
-        let body = length;
         Some(Event::Frame {
             head: FrameHead {
                 place,
                 marked,
                 size,
-                body,
+                body: length,
                 facts,
             },
         })
@@ -252,14 +256,12 @@ impl FrameDecoder {
         ensures { λ r. ⌜ Turns (λ bs. factsOf (meaning (now (reading .entry)) bs)) (now (self .entry)) (now (metadata .entry)) (now (body .entry)) (now (rest .entry)) r (now (self .exit)) (now (metadata .exit)) (now (body .exit)) ⌝ }
     {
         match (self.state, rest) {
-            (DecoderState::Header { mut bytes, got }, [b, ..]) => {
-                bytes[got] = *b;
-                let event = self.opened(bytes, got + 1)?;
+            (DecoderState::Header { bytes, got }, [b, ..]) => {
+                let event = self.opened(bytes, got, *b)?;
                 Ok(Step { used: 1, event })
             }
             (DecoderState::Message { marked, size, got }, _) => {
-                let used = (size - got).min(rest.len());
-                fill(metadata, got, rest, used);
+                let used = fill(metadata, got, size, rest);
                 let event = self.gathered(reading, metadata, marked, size, got + used)?;
                 Ok(Step { used, event })
             }
@@ -273,17 +275,13 @@ impl FrameDecoder {
                 },
                 _,
             ) => {
-                let used = (length - got).min(rest.len());
-                fill(body, got, rest, used);
+                let used = fill(body, got, length, rest);
                 let event = self.filled(marked, size, facts, length, got + used);
                 Ok(Step { used, event })
             }
             (DecoderState::Finished, [_, ..]) => Err(self.stop(Refusal::BehindEnd)),
             (DecoderState::Stopped { fault }, _) => Err(fault),
-            (_, []) => Ok(Step {
-                used: 0,
-                event: None,
-            }),
+            (_, []) => Ok(NO_STEP),
         }
     }
 }
