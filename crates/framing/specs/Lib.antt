@@ -2,6 +2,8 @@ pub mod Moves
 pub mod Frames
 pub mod Steps
 pub mod Streams
+pub mod Within
 pub mod Calls
 pub mod Views
+pub mod Turns
 pub mod Runs

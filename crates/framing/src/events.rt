@@ -27,3 +27,9 @@ pub struct Step {
     pub used: usize,
     pub event: Option<Event>,
 }
+
+// No byte was used.
+pub(crate) const NO_STEP: Step = Step {
+    used: 0,
+    event: None,
+};

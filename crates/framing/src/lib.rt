@@ -1,4 +1,5 @@
 // How a stream of bytes is cut into frames, in whatever pieces it comes.
+mod decoder;
 pub mod events;
 pub mod state;
 

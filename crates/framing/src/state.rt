@@ -1,4 +1,6 @@
 // Where a decoder of frames stands.
+ghost use Prim.Native.Nat.{_≤_};
+ghost use Rattle.framing.specs.Within.{opens, room, reach, held, spans, fills};
 use message::Facts;
 use message::Fault;
 use message::Place;
@@ -38,4 +40,12 @@ pub struct FrameDecoder {
     pub(crate) state: DecoderState,
     // of the frame that the state is in, or of the next
     pub(crate) place: Place,
+    ghost few: { metadata ≤ 1048576 },
+    ghost limited: { body ≤ 16777216 },
+    ghost opening: { opens state ≤ 8 },
+    ghost bytes: { opens state ≤ room state },
+    ghost size: { reach state ≤ metadata },
+    ghost part: { held state ≤ reach state },
+    ghost length: { spans state ≤ body },
+    ghost rest: { fills state ≤ spans state },
 }

@@ -1,0 +1,12 @@
+pub mod Blocks
+pub mod Gathers
+pub mod Fills
+pub mod Ways
+pub mod Frames
+pub mod Shown
+pub mod RunOf
+pub mod OpeningOf
+pub mod Stands
+pub mod MovesOf
+pub mod TurnOf
+pub mod AdvanceOf
