@@ -56,7 +56,13 @@ fn list<R: Reading, S: Read>(
         return Err("the holds are too short or too long; write 'fegzund help' for their lengths".into());
     };
     for _ in 0..u64::MAX {
-        let n = source.read(block.as_mut_slice())?;
+        let n = match source.read(block.as_mut_slice()) {
+            Ok(n) => n,
+            Err(e) => {
+                let file = options.file.as_str();
+                return Err(format!(heap, "can't read '{file}': {e}; give a file that can be read")?.into());
+            }
+        };
         let mut rest = block.as_slice().get(0..n).unwrap_or(&[]);
         if rest.is_empty() {
             break;

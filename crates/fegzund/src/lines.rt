@@ -4,8 +4,10 @@ use framing::FrameHead;
 use message::BatchFacts;
 use message::Fault;
 use message::Header;
+use message::Place;
 use message::Reading;
 use message::Row;
+use std::alloc::AllocError;
 use std::alloc::Global;
 use std::error::AnyError;
 use std::io::Write;
@@ -13,20 +15,16 @@ use std::io::Write;
 // Lines that are not written yet.
 #[derive(Drop)]
 pub struct Listing {
-    text: String,
+    text: Vec<u8>,
 }
 
 // How long the text may grow before it is written.
 const LONG: usize = 65536;
 
-fn yes_no(b: bool) -> &'static str {
-    if b { "yes" } else { "no" }
-}
-
 impl Listing {
     pub fn new(heap: Global) -> Listing {
         Listing {
-            text: String::new(heap),
+            text: Vec::new(heap),
         }
     }
 
@@ -39,9 +37,54 @@ impl Listing {
     }
 
     pub fn write_all(&mut self, rt: &LibcRuntime) -> Result<(), AnyError> {
-        rt.stdout().write_all(self.text.as_bytes())?;
+        rt.stdout().write_all(self.text.as_slice())?;
         self.text.clear();
         Ok(())
+    }
+
+    fn word(&mut self, word: &str) -> Result<(), AllocError> {
+        self.text.extend_from_slice(word.as_bytes())
+    }
+
+    // A word and a number.
+    fn number(&mut self, word: &str, n: u64) -> Result<(), AllocError> {
+        self.word(word)?;
+        self.digits(n)
+    }
+
+    fn count(&mut self, word: &str, n: usize) -> Result<(), AllocError> {
+        self.number(word, n as u64)
+    }
+
+    fn signed(&mut self, word: &str, n: i64) -> Result<(), AllocError> {
+        self.word(word)?;
+        if n < 0 {
+            self.word("-")?;
+        }
+        self.digits(n.unsigned_abs())
+    }
+
+    fn mark(&mut self, word: &str, b: bool) -> Result<(), AllocError> {
+        self.word(word)?;
+        self.word(if b { "yes" } else { "no" })
+    }
+
+    fn digits(&mut self, n: u64) -> Result<(), AllocError> {
+        let mut digits = [b'0'; 20];
+        let mut left = n;
+        for at in (0..20).rev() {
+            digits[at] = b'0' + (left % 10) as u8;
+            left /= 10;
+            if left == 0 {
+                return self.text.extend_from_slice(&digits[at..]);
+            }
+        }
+        Ok(())
+    }
+
+    fn place(&mut self, word: &str, place: Place) -> Result<(), AllocError> {
+        self.number(word, place.message)?;
+        self.number(" position ", place.position)
     }
 
     pub fn event<R: Reading>(
@@ -49,13 +92,11 @@ impl Listing {
         reading: &R,
         metadata: &[u8],
         event: Event,
-    ) -> Result<(), AnyError> {
+    ) -> Result<(), AllocError> {
         match event {
             Event::End { place } => {
-                let message = place.message;
-                let position = place.position;
-                writeln!(self.text, "end {message} position {position}")?;
-                Ok(())
+                self.place("end ", place)?;
+                self.word("\n")
             }
             Event::Frame { head } => {
                 let metadata = metadata.get(0..head.size).unwrap_or(&[]);
@@ -65,19 +106,14 @@ impl Listing {
         }
     }
 
-    fn frame(&mut self, head: FrameHead) -> Result<(), AnyError> {
-        let message = head.place.message;
-        let position = head.place.position;
-        let marker = yes_no(head.marked);
-        let size = head.size;
-        let version = head.facts.version;
-        let number = header_type(head.facts.header);
-        let body = head.body;
-        writeln!(
-            self.text,
-            "frame {message} position {position} marker {marker} size {size} version {version} type {number} body {body}"
-        )?;
-        Ok(())
+    fn frame(&mut self, head: FrameHead) -> Result<(), AllocError> {
+        self.place("frame ", head.place)?;
+        self.mark(" marker ", head.marked)?;
+        self.count(" size ", head.size)?;
+        self.signed(" version ", i64::from(head.facts.version))?;
+        self.number(" type ", u64::from(header_type(head.facts.header)))?;
+        self.count(" body ", head.body)?;
+        self.word("\n")
     }
 
     fn contents<R: Reading>(
@@ -85,7 +121,7 @@ impl Listing {
         reading: &R,
         metadata: &[u8],
         header: Header,
-    ) -> Result<(), AnyError> {
+    ) -> Result<(), AllocError> {
         match header {
             Header::Schema { rows } => {
                 for k in 0..rows {
@@ -96,30 +132,28 @@ impl Listing {
                 Ok(())
             }
             Header::DictionaryBatch { id, delta, data } => {
-                let delta = yes_no(delta);
-                write!(self.text, "dictionary id {id} delta {delta} ")?;
+                self.signed("dictionary id ", id)?;
+                self.mark(" delta ", delta)?;
+                self.word(" ")?;
                 self.batch(reading, metadata, data)
             }
             Header::RecordBatch { data } => {
-                write!(self.text, "batch ")?;
+                self.word("batch ")?;
                 self.batch(reading, metadata, data)
             }
             Header::Empty | Header::Other { .. } => Ok(()),
         }
     }
 
-    fn row(&mut self, k: usize, row: Row) -> Result<(), AnyError> {
-        let kind = row.kind;
-        let flag = row.flag;
-        let tag = row.tag;
-        let parameter = row.parameter;
-        let id = row.id;
-        let end = row.end;
-        writeln!(
-            self.text,
-            "row {k} kind {kind} flag {flag} tag {tag} parameter {parameter} id {id} end {end}"
-        )?;
-        Ok(())
+    fn row(&mut self, k: usize, row: Row) -> Result<(), AllocError> {
+        self.count("row ", k)?;
+        self.number(" kind ", u64::from(row.kind))?;
+        self.number(" flag ", u64::from(row.flag))?;
+        self.number(" tag ", u64::from(row.tag))?;
+        self.number(" parameter ", u64::from(row.parameter))?;
+        self.signed(" id ", row.id)?;
+        self.number(" end ", u64::from(row.end))?;
+        self.word("\n")
     }
 
     fn batch<R: Reading>(
@@ -127,20 +161,17 @@ impl Listing {
         reading: &R,
         metadata: &[u8],
         facts: BatchFacts,
-    ) -> Result<(), AnyError> {
-        let length = facts.length;
-        let compressed = yes_no(facts.compressed);
-        let missing = yes_no(facts.missing);
-        let nodes = facts.nodes;
-        let buffers = facts.buffers;
-        let counts = facts.counts;
-        writeln!(
-            self.text,
-            "length {length} compressed {compressed} missing {missing} nodes {nodes} buffers {buffers} counts {counts}"
-        )?;
-        self.nodes(reading, metadata, nodes)?;
-        self.buffers(reading, metadata, buffers)?;
-        self.counts(reading, metadata, counts)
+    ) -> Result<(), AllocError> {
+        self.signed("length ", facts.length)?;
+        self.mark(" compressed ", facts.compressed)?;
+        self.mark(" missing ", facts.missing)?;
+        self.count(" nodes ", facts.nodes)?;
+        self.count(" buffers ", facts.buffers)?;
+        self.count(" counts ", facts.counts)?;
+        self.word("\n")?;
+        self.nodes(reading, metadata, facts.nodes)?;
+        self.buffers(reading, metadata, facts.buffers)?;
+        self.counts(reading, metadata, facts.counts)
     }
 
     fn nodes<R: Reading>(
@@ -148,12 +179,13 @@ impl Listing {
         reading: &R,
         metadata: &[u8],
         n: usize,
-    ) -> Result<(), AnyError> {
+    ) -> Result<(), AllocError> {
         for k in 0..n {
             if let Some(node) = reading.node(metadata, k) {
-                let length = node.length;
-                let nulls = node.nulls;
-                writeln!(self.text, "node {k} length {length} nulls {nulls}")?;
+                self.count("node ", k)?;
+                self.signed(" length ", node.length)?;
+                self.signed(" nulls ", node.nulls)?;
+                self.word("\n")?;
             }
         }
         Ok(())
@@ -164,12 +196,13 @@ impl Listing {
         reading: &R,
         metadata: &[u8],
         n: usize,
-    ) -> Result<(), AnyError> {
+    ) -> Result<(), AllocError> {
         for k in 0..n {
             if let Some(buffer) = reading.buffer(metadata, k) {
-                let offset = buffer.offset;
-                let length = buffer.length;
-                writeln!(self.text, "buffer {k} offset {offset} length {length}")?;
+                self.count("buffer ", k)?;
+                self.signed(" offset ", buffer.offset)?;
+                self.signed(" length ", buffer.length)?;
+                self.word("\n")?;
             }
         }
         Ok(())
@@ -180,41 +213,35 @@ impl Listing {
         reading: &R,
         metadata: &[u8],
         n: usize,
-    ) -> Result<(), AnyError> {
+    ) -> Result<(), AllocError> {
         for k in 0..n {
             if let Some(count) = reading.count(metadata, k) {
-                writeln!(self.text, "count {k} value {count}")?;
+                self.count("count ", k)?;
+                self.signed(" value ", count)?;
+                self.word("\n")?;
             }
         }
         Ok(())
     }
 
-    pub fn refused(&mut self, fault: Fault) -> Result<(), AnyError> {
-        let number = fault.refusal.number();
-        match fault.place {
-            Some(place) => {
-                let message = place.message;
-                let position = place.position;
-                writeln!(
-                    self.text,
-                    "refused {number} message {message} position {position}"
-                )?;
-            }
-            None => writeln!(self.text, "refused {number}")?,
+    pub fn refused(&mut self, fault: Fault) -> Result<(), AllocError> {
+        self.number("refused ", u64::from(fault.refusal.number()))?;
+        if let Some(place) = fault.place {
+            self.place(" message ", place)?;
         }
-        Ok(())
+        self.word("\n")
     }
 
     // The last line, and whether the stream is accepted.
-    pub fn finish(&mut self, end: Result<(), Fault>) -> Result<bool, AnyError> {
+    pub fn finish(&mut self, end: Result<(), Fault>) -> Result<bool, AllocError> {
         match end {
             Ok(()) => {
-                writeln!(self.text, "finish ok")?;
+                self.word("finish ok\n")?;
                 Ok(true)
             }
             Err(fault) => {
-                let number = fault.refusal.number();
-                writeln!(self.text, "finish refused {number}")?;
+                self.number("finish refused ", u64::from(fault.refusal.number()))?;
+                self.word("\n")?;
                 Ok(false)
             }
         }
