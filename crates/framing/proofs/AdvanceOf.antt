@@ -1,8 +1,8 @@
 -- One piece: turn after turn.
 use mathlib.Core.Path.{_≡_, refl, sym, ap, subst, subst₂, _∙_}
-use mathlib.Core.List.{List, [], _∷_}
+use mathlib.Core.List.{List, []}
 use mathlib.Core.Bool.{Bool, true, false}
-use Prim.Native.Nat.{ℕ, _+_, _-_, _<_, _≤_}
+use Prim.Native.Nat.{ℕ, _+_, _-_, _≤_}
 use mathlib.Core.Logic.{_⊎_, inl, inr}
 use native.Mathlib.Omega.{arith}
 use lib.ListN.{length, take, drop, length-drop}
@@ -20,8 +20,8 @@ use Rattle.framing.specs.declared.state.FrameDecoder.{FrameDecoder}
 use Rattle.framing.specs.Moves.{Went, quiet, showed, refused}
 use Rattle.framing.specs.Frames.{Holds, Envelope, Shown}
 use Rattle.framing.specs.Steps.{Stand}
-use Rattle.framing.specs.Calls.{advanced, eventOf, answered, standing, Held, InHolds}
-use Rattle.framing.specs.Views.{standOf, holdsOf, Own, Came, Advances}
+use Rattle.framing.specs.Calls.{advanced, eventOf, answered, standing, Held}
+use Rattle.framing.specs.Views.{standOf, holdsOf, Own, Advances}
 use Rattle.framing.specs.Turns.{Kept, TurnOn, Turns}
 use Rattle.framing.proofs.Stands.{holds-kept}
 

@@ -1,20 +1,19 @@
 -- Openings, metadata and bodies in bulk: a block of bytes acts as one.
 use mathlib.Core.Path.{_≡_, refl, sym, ap, subst, _∙_}
-use mathlib.Core.List.{List, [], _∷_, _++_, append-assoc}
-use mathlib.Core.Bool.{Bool, true, false, cond}
+use mathlib.Core.List.{List, [], _∷_, _++_}
+use mathlib.Core.Bool.{Bool, true, false}
 use Prim.Native.Nat.{ℕ, _+_, _-_, _<_, _≤_}
-use mathlib.Core.Logic.{_⊎_, inl, inr}
+use mathlib.Core.Logic.{inl, inr}
 use native.Mathlib.Omega.{arith}
-use lib.Dec.{eqb, ltb}
-use lib.ListN.{length, getD, take, drop, length-append, take-append-drop}
+use lib.ListN.{length, take, drop, length-append, take-append-drop}
 use Rattle.std.proofs.shelf.Lists.{length-take-le, drop-take, take-take}
 use Rattle.std.proofs.shelf.Tests.{ne-eqb, lt-ltb, le-ltb, cases-lt}
 use Rattle.little.specs.Numbers.{le, numberIn}
 use Rattle.message.specs.declared.faults.Place.{Place}
 use Rattle.message.specs.declared.headers.Facts.{Facts}
-use Rattle.framing.specs.Moves.{Moved, on, shows, refuses, quiet, wentOn, goes}
-use Rattle.framing.specs.Frames.{Holds, Envelope, Shown, marks, opening, sizeOf}
-use Rattle.framing.specs.Steps.{Stand, header, metadata, body, Move, opened, sized, gathered, filled, step}
+use Rattle.framing.specs.Moves.{on, quiet, wentOn, goes}
+use Rattle.framing.specs.Frames.{Holds, Envelope, marks, opening, sizeOf}
+use Rattle.framing.specs.Steps.{header, metadata, body, opened, sized, gathered, filled, step}
 use Rattle.framing.proofs.Blocks.{Acts}
 use Rattle.framing.proofs.Gathers.{Last, gathers}
 

@@ -1,8 +1,8 @@
 -- The stream byte by byte is the stream frame by frame.
-use mathlib.Core.Path.{_≡_, refl, sym, ap, subst, _∙_}
-use mathlib.Core.List.{List, [], _∷_, _++_, append-nil}
-use mathlib.Core.Bool.{Bool, true, false}
-use mathlib.Core.Logic.{_⊎_, inl, inr}
+use mathlib.Core.Path.{_≡_, refl, sym, ap, _∙_}
+use mathlib.Core.List.{List, [], _∷_, append-nil}
+use mathlib.Core.Bool.{Bool}
+use mathlib.Core.Logic.{inl, inr}
 use Prim.Native.Nat.{ℕ, zero, suc, _+_, _-_, _<_, _≤_}
 use native.Mathlib.Omega.{arith}
 use lib.ListN.{length, take, drop, length-drop, take-append-drop}
@@ -12,16 +12,15 @@ use Rattle.std.specs.declared.option.Option.{Option}
 use Rattle.std.specs.declared.option.Option.the-variants.{Some, None}
 use Rattle.std.specs.declared.result.Result.{Result}
 use Rattle.std.specs.declared.result.Result.the-variants.{Ok, Err}
-use Rattle.message.specs.declared.faults.Fault.{Fault}
 use Rattle.message.specs.declared.faults.Place.{Place}
 use Rattle.message.specs.declared.headers.Facts.{Facts}
 use Rattle.message.specs.declared.readings.Refused.{Refused}
-use Rattle.framing.specs.Moves.{Moved, on, shows, refuses, Whole, wholeOn, quiet, wentOn, goes, whole}
+use Rattle.framing.specs.Moves.{on, shows, Whole, wholeOn, quiet, wentOn, whole}
 use Rattle.framing.specs.Frames.{Holds, Envelope, Frame, Shown, frame, end, behind, marks, opening, sizeOf, bodyLength, lengthOf}
-use Rattle.framing.specs.Steps.{Stand, header, metadata, body, ended, stopped, Move, sized, bodied, told, gathered, filled, step}
-use Rattle.framing.specs.Streams.{First, cut, ends, not, whole as one, withBody, withFacts, withSize, first, Close, well, short, by, Stream, none, also, afterEnd, followed, frames, start, stream}
+use Rattle.framing.specs.Steps.{Stand, header, metadata, body, ended, stopped, Move, sized, bodied, told, filled, step}
+use Rattle.framing.specs.Streams.{First, cut, whole as one, withBody, withFacts, withSize, first, Close, well, short, by, Stream, none, also, afterEnd, followed, frames, start, stream}
 use Rattle.framing.proofs.Blocks.{Acts, acts-whole}
-use Rattle.framing.proofs.Fills.{metadata-acts, body-acts, opening-bounds, Opening, opening-cut, opening-all}
+use Rattle.framing.proofs.Fills.{metadata-acts, body-acts, opening-bounds, opening-cut, opening-all}
 use Rattle.framing.proofs.Ways.{sized-end, sized-large, sized-fits, gathered-some, gathered-all, filled-some, filled-all, body-cut, body-whole, size-end, size-large, size-cut, size-fits, first-cut, first-sized}
 
 -- how a stream that stands here closes, if no byte comes any more

@@ -1,10 +1,10 @@
 -- Bytes that are gathered: a block of them acts as one.
 use mathlib.Core.Path.{_≡_, refl, sym, ap, subst, _∙_}
 use mathlib.Core.List.{List, [], _∷_, _++_, append-nil, append-assoc}
-use Prim.Native.Nat.{ℕ, _+_, _<_}
+use Prim.Native.Nat.{ℕ, _+_}
 use native.Mathlib.Omega.{arith}
 use lib.ListN.{length}
-use Rattle.framing.specs.Moves.{Moved, on, shows, refuses, quiet, wentOn, goes}
+use Rattle.framing.specs.Moves.{Moved, on, quiet, wentOn, goes}
 use Rattle.framing.proofs.Blocks.{Acts, acts-goes}
 
 -- bytes with a last one

@@ -1,9 +1,9 @@
 -- The parts of a decoder, way by way.
 use mathlib.Core.Path.{_≡_, refl, sym, ap, subst, _∙_}
-use mathlib.Core.List.{List, [], _∷_}
-use mathlib.Core.Bool.{Bool, true, false, cond}
-use mathlib.Core.Logic.{_⊎_, inl, inr}
-use Prim.Native.Nat.{ℕ, _+_, _-_, _<_, _≤_}
+use mathlib.Core.List.{List, []}
+use mathlib.Core.Bool.{Bool, cond}
+use mathlib.Core.Logic.{inl, inr}
+use Prim.Native.Nat.{ℕ, _+_, _-_, _≤_}
 use native.Mathlib.Omega.{arith}
 use lib.Dec.{leb}
 use lib.IntN.{ℤ, pos, negsuc}
@@ -13,23 +13,21 @@ use Rattle.std.proofs.shelf.Tests.{cases-lt, le-leb, lt-leb, cond-true, cond-fa
 use Rattle.std.specs.declared.option.Option.{Option}
 use Rattle.std.specs.declared.option.Option.the-variants.{Some, None}
 use Rattle.std.specs.declared.result.Result.{Result}
-use Rattle.std.specs.declared.result.Result.the-variants.{Ok, Err}
-use Rattle.little.specs.Numbers.{numberIn, numberAt}
+use Rattle.std.specs.declared.result.Result.the-variants.{Ok}
+use Rattle.little.specs.Numbers.{numberAt}
 use Rattle.little.proofs.Spelled.{number-inside, number-outside}
 use Rattle.message.specs.declared.faults.Fault.{Fault}
 use Rattle.message.specs.declared.faults.Place.{Place}
 use Rattle.message.specs.declared.headers.Facts.{Facts}
 use Rattle.framing.specs.declared.events.Event.{Event}
 use Rattle.framing.specs.declared.events.Event.the-variants.{Frame as FrameEvent, End as EndEvent}
-use Rattle.framing.specs.declared.state.DecoderState.{DecoderState}
-use Rattle.framing.specs.declared.state.DecoderState.the-variants.{Header, Message, Body, Finished, Stopped}
+use Rattle.framing.specs.declared.state.DecoderState.the-variants.{Header, Finished}
 use Rattle.framing.specs.declared.state.FrameDecoder.{FrameDecoder}
-use Rattle.framing.specs.Moves.{Moved, on, shows, refuses}
-use Rattle.framing.specs.Frames.{Holds, Envelope, Frame, Shown, frame, end, behind, marks, opening, sizeOf, bodyLength, atMost, lengthOf}
-use Rattle.framing.specs.Steps.{Stand, header, metadata, body, ended, stopped, Move, sized, opened, filled, told, bodied, gathered}
-use Rattle.framing.specs.Calls.{eventOf, InHolds}
+use Rattle.framing.specs.Moves.{on, shows}
+use Rattle.framing.specs.Frames.{Holds, Envelope, frame, end, behind, marks, opening, sizeOf, bodyLength, atMost, lengthOf}
+use Rattle.framing.specs.Steps.{header, metadata, body, ended, sized, opened, filled, told, bodied, gathered}
 use Rattle.framing.specs.Views.{standOf, holdsOf}
-use Rattle.framing.specs.Turns.{openingIn, Kept, MovedBy, Moves, Sized, Opened, Filled, Gathered}
+use Rattle.framing.specs.Turns.{openingIn, Kept, Moves, Sized, Opened, Filled, Gathered}
 use Rattle.framing.proofs.Fills.{Opening, opening-bounds, opening-some, opening-whole}
 use Rattle.framing.proofs.Ways.{sized-end, gathered-all, filled-all, framed}
 use Rattle.framing.proofs.Stands.{stand-at}

@@ -1,14 +1,14 @@
 -- A run of calls that meet their contracts goes by where the decoder stands.
-use mathlib.Core.Path.{_≡_, refl, sym, ap, subst, _∙_}
+use mathlib.Core.Path.{_≡_, sym, ap, subst, _∙_}
 use mathlib.Core.List.{List, [], _∷_}
 use Prim.Native.Nat.{ℕ}
 use lib.ListN.{length}
 use Rattle.framing.specs.declared.state.FrameDecoder.{FrameDecoder}
 use Rattle.framing.specs.Frames.{Holds, Envelope}
-use Rattle.framing.specs.Steps.{Stand, header}
-use Rattle.framing.specs.Streams.{start, stream}
+use Rattle.framing.specs.Steps.{header}
+use Rattle.framing.specs.Streams.{start}
 use Rattle.framing.specs.Calls.{advanced, answered, standing, Held}
-use Rattle.framing.specs.Views.{Own, standOf, holdsOf, Advances, Ends}
+use Rattle.framing.specs.Views.{Own, standOf, holdsOf}
 use Rattle.framing.specs.Runs.{Call, advances, advancesOther, endsAt, Runs, Shows, Begins, Lawful}
 use Rattle.framing.proofs.Frames.{whole-is}
 use Rattle.framing.proofs.Shown.{Follows, shows-run}

@@ -1,9 +1,9 @@
 -- Whatever the pieces, a run shows what the stream of its bytes holds.
-use mathlib.Core.Path.{_≡_, refl, sym, ap, subst, subst₂, _∙_}
+use mathlib.Core.Path.{_≡_, refl, sym, ap, subst, _∙_}
 use mathlib.Core.List.{List, [], _∷_, _++_, append-assoc}
 use mathlib.Core.Bool.{Bool, true, false}
-use mathlib.Core.Logic.{_⊎_, inl, inr}
-use Prim.Native.Nat.{ℕ, _+_, _-_, _≤_}
+use mathlib.Core.Logic.{inl, inr}
+use Prim.Native.Nat.{ℕ, _+_, _-_}
 use native.Mathlib.Omega.{arith}
 use lib.Dec.{eqb, ltb}
 use lib.ListN.{length, take, drop, length-append}
@@ -16,17 +16,16 @@ use Rattle.std.specs.declared.result.Result.{Result}
 use Rattle.std.specs.declared.result.Result.the-variants.{Ok, Err}
 use Rattle.message.specs.declared.faults.Fault.{Fault}
 use Rattle.message.specs.declared.faults.Place.{Place}
-use Rattle.message.specs.declared.faults.Refusal.the-variants.{Lengths, Unfinished}
+use Rattle.message.specs.declared.faults.Refusal.the-variants.{Lengths}
 use Rattle.message.specs.declared.headers.Facts.{Facts}
 use Rattle.message.specs.declared.readings.Refused.{Refused}
 use Rattle.message.specs.Faults.{bare}
 use Rattle.framing.specs.declared.events.Step.{Step}
-use Rattle.framing.specs.Moves.{Moved, on, shows, refuses, Went, quiet, showed, refused, Whole, andShown, wentOn, goes, whole}
-use Rattle.framing.specs.Frames.{Holds, Envelope, Frame, Shown, frame, end, marks, opening, sizeOf, bodyLength}
+use Rattle.framing.specs.Moves.{on, shows, refuses, Went, quiet, showed, refused, andShown, wentOn, goes, whole}
+use Rattle.framing.specs.Frames.{Holds, Envelope, Shown, frame, end, marks, opening, sizeOf, bodyLength}
 use Rattle.framing.specs.Steps.{Stand, header, metadata, body, ended, stopped, Move, sized, opened, filled, bodied, told, gathered, step}
-use Rattle.framing.specs.Streams.{Close, well, short, by, Stream}
 use Rattle.framing.specs.Calls.{advanced, eventOf, answered, standing, InHolds, Held, endAt}
-use Rattle.framing.specs.Runs.{Call, advances, advancesOther, endsAt, Gets, seen, shownIn, refusalIn, Asked, Stays, Stopped, OtherRefused, refusalOf, endOf, Shows}
+use Rattle.framing.specs.Runs.{Call, advances, advancesOther, endsAt, Gets, seen, shownIn, Asked, Stays, OtherRefused, refusalOf, endOf, Shows}
 use Rattle.framing.proofs.Blocks.{thenAll, whole-piece, rest-of}
 use Rattle.framing.proofs.Frames.{closeOf, streamOf}
 

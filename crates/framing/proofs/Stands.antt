@@ -1,21 +1,17 @@
 -- Where a decoder stands, by its fields.
 use mathlib.Core.Path.{_≡_, refl, sym, ap, _∙_}
 use mathlib.Core.List.{List, [], _∷_}
-use mathlib.Core.Bool.{Bool}
-use Prim.Native.Nat.{ℕ, zero, suc, _+_, _<_, _≤_}
+use Prim.Native.Nat.{ℕ, zero, suc, _<_, _≤_}
 use native.Mathlib.Omega.{arith}
 use lib.ListN.{length, take}
-use Rattle.std.specs.declared.result.Result.{Result}
 use Rattle.std.specs.declared.result.Result.the-variants.{Err}
 use Rattle.message.specs.declared.faults.Fault.{Fault}
-use Rattle.message.specs.declared.faults.Place.{Place}
 use Rattle.message.specs.declared.faults.Refusal.the-variants.{Unfinished}
 use Rattle.message.specs.Faults.{bare}
 use Rattle.framing.specs.declared.state.DecoderState.{DecoderState}
-use Rattle.framing.specs.declared.state.DecoderState.the-variants.{Header, Message, Body, Finished, Stopped}
+use Rattle.framing.specs.declared.state.DecoderState.the-variants.{Header, Stopped}
 use Rattle.framing.specs.declared.state.FrameDecoder.{FrameDecoder}
-use Rattle.framing.specs.Frames.{Holds}
-use Rattle.framing.specs.Steps.{Stand, header, metadata, body, ended, stopped}
+use Rattle.framing.specs.Steps.{metadata, body, stopped}
 use Rattle.framing.specs.Calls.{betweenFrames, endAt}
 use Rattle.framing.specs.Views.{stateStand, standOf, holdsOf, Ends}
 use Rattle.framing.specs.Turns.{Kept}

@@ -9,23 +9,21 @@ use lib.ListN.{length, getD, take, drop, take-append-drop}
 use Rattle.std.proofs.shelf.Lists.{length-take-le}
 use Rattle.std.specs.declared.option.Option.{Option}
 use Rattle.std.specs.declared.option.Option.the-variants.{Some, None}
-use Rattle.std.specs.declared.result.Result.{Result}
 use Rattle.std.specs.declared.result.Result.the-variants.{Ok, Err}
 use Rattle.message.specs.declared.faults.Fault.{Fault}
 use Rattle.message.specs.declared.faults.Place.{Place}
 use Rattle.message.specs.declared.faults.Refusal.the-variants.{BehindEnd}
 use Rattle.message.specs.declared.headers.Facts.{Facts}
 use Rattle.framing.specs.declared.events.Event.{Event}
-use Rattle.framing.specs.declared.events.Step.{Step}
 use Rattle.framing.specs.declared.state.DecoderState.{DecoderState}
 use Rattle.framing.specs.declared.state.DecoderState.the-variants.{Header, Message, Body, Finished, Stopped}
 use Rattle.framing.specs.declared.state.FrameDecoder.{FrameDecoder}
-use Rattle.framing.specs.Moves.{Moved, on, shows, refuses, Went, quiet, showed, refused, wentOn, goes}
-use Rattle.framing.specs.Frames.{Holds, Envelope}
+use Rattle.framing.specs.Moves.{refuses, quiet, refused, wentOn, goes}
+use Rattle.framing.specs.Frames.{Envelope}
 use Rattle.framing.specs.Steps.{Stand, header, metadata, body, ended, stopped, Move, refuse, opened, filled, gathered, step}
 use Rattle.framing.specs.Calls.{advanced}
-use Rattle.framing.specs.Views.{stateStand, standOf, holdsOf, Own}
-use Rattle.framing.specs.Turns.{Kept, Stops, ShownBy, MovedBy, Moves, Opened, Filled, Gathered, Turns}
+use Rattle.framing.specs.Views.{stateStand, standOf, holdsOf}
+use Rattle.framing.specs.Turns.{Kept, Stops, ShownBy, Moves, Turns}
 use Rattle.framing.proofs.Blocks.{Acts, acts-goes}
 use Rattle.framing.proofs.Fills.{metadata-acts, body-acts, opening-byte}
 use Rattle.framing.proofs.Shown.{Live, StopsBy, opened-stops, filled-stops, gathered-stops, live-goes}

@@ -1,20 +1,19 @@
 -- The definitions of frames, way by way.
-use mathlib.Core.Path.{_≡_, refl, sym, ap, _∙_}
-use mathlib.Core.List.{List, [], _∷_}
-use mathlib.Core.Bool.{Bool, true, false}
+use mathlib.Core.Path.{_≡_}
+use mathlib.Core.List.{List, []}
+use mathlib.Core.Bool.{Bool}
 use Prim.Native.Nat.{ℕ, _<_, _≤_}
 use native.Mathlib.Omega.{arith}
-use lib.Dec.{eqb, ltb}
 use lib.ListN.{length, take, drop}
 use Rattle.std.proofs.shelf.Tests.{eq-eqb, ne-eqb, lt-ltb, le-ltb}
-use Rattle.std.specs.declared.option.Option.the-variants.{Some, None}
+use Rattle.std.specs.declared.option.Option.the-variants.{Some}
 use Rattle.message.specs.declared.faults.Place.{Place}
 use Rattle.message.specs.declared.faults.Refusal.the-variants.{MetadataSize}
 use Rattle.message.specs.declared.headers.Facts.{Facts}
-use Rattle.framing.specs.Moves.{Moved, on, shows, refuses}
-use Rattle.framing.specs.Frames.{Holds, Envelope, Frame, Shown, frame, end, behind, marks, opening, sizeOf, lengthOf}
-use Rattle.framing.specs.Steps.{Stand, header, metadata, body, ended, Move, refuse, sized, filled, told, gathered}
-use Rattle.framing.specs.Streams.{First, cut, ends, not, whole, withBody, withFacts, withSize, first}
+use Rattle.framing.specs.Moves.{on, shows}
+use Rattle.framing.specs.Frames.{Holds, Envelope, Frame, frame, end, behind, marks, opening, sizeOf, lengthOf}
+use Rattle.framing.specs.Steps.{header, metadata, body, ended, refuse, sized, filled, told, gathered}
+use Rattle.framing.specs.Streams.{cut, ends, not, whole, withBody, withFacts, withSize, first}
 
 module _ (h : Holds) (p : Place) (marked : Bool) (n : ℕ) where
   pub sized-end : n ≡ 0 → sized h p marked n ≡ shows (end p) (ended (behind p (opening marked)))

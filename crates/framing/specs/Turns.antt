@@ -10,7 +10,6 @@ use Rattle.std.specs.declared.result.Result.{Result}
 use Rattle.std.specs.declared.result.Result.the-variants.{Ok, Err}
 use Rattle.little.specs.Numbers.{numberAt}
 use Rattle.message.specs.declared.faults.Fault.{Fault}
-use Rattle.message.specs.declared.faults.Place.{Place}
 use Rattle.message.specs.declared.faults.Refusal.{Refusal}
 use Rattle.message.specs.declared.headers.Facts.{Facts}
 use Rattle.message.specs.Faults.{placed}

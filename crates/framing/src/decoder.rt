@@ -1,7 +1,7 @@
 // The calls of a decoder of frames.
 ghost use mathlib.Core.Path.{_≡_};
 ghost use mathlib.Core.List.{[], _∷_, _++_};
-ghost use Prim.Native.Nat.{_+_, _<_, _≤_};
+ghost use Prim.Native.Nat.{_<_, _≤_};
 ghost use lib.ListN.{length, take};
 ghost use Rattle.message.specs.Messages.{factsOf};
 ghost use Rattle.framing.specs.Frames.{atMost, behind, opening};

@@ -1,7 +1,7 @@
 use mathlib.Core.Path.{refl}
 use native.Mathlib.Omega.{arith}
 use Rattle.framing.specs.Frames.{Holds}
-use Rattle.framing.specs.Runs.{Begins, Fits}
+use Rattle.framing.specs.Runs.{Begins}
 use Rattle.framing.proofs.RunOf.{lawful}
 use Rattle.framing.proofs.state.FrameDecoder.new.Needs as need
 

@@ -1,12 +1,11 @@
 use borrow.Author.Needs.{needs}
-use mathlib.Core.Path.{_≡_, refl, sym, ap, subst, _∙_}
-use mathlib.Core.List.{List, [], _∷_, _++_}
-use Prim.Native.Nat.{ℕ, _+_, _<_}
+use mathlib.Core.Path.{_≡_, refl, _∙_}
+use mathlib.Core.List.{[], _∷_, _++_}
+use Prim.Native.Nat.{_+_, _<_}
 use native.Mathlib.Omega.{arith}
 use lib.ListN.{length, set, take, length-set}
 use Rattle.std.proofs.shelf.Lists.{length-take-le, take-more-set}
 use Rattle.framing.specs.Frames.{marks}
-use Rattle.framing.specs.Turns.{Opened}
 use Rattle.framing.specs.Views.{holdsOf}
 use Rattle.framing.proofs.Fills.{Opening, opening-bounds}
 use Rattle.framing.proofs.MovesOf.{not-whole, whole, opening-more, opening-sized}

@@ -1,4 +1,4 @@
-use mathlib.Core.Path.{_≡_, refl, ap, _∙_}
+use mathlib.Core.Path.{refl, ap, _∙_}
 use Rattle.framing.specs.Frames.{behind}
 use Rattle.framing.proofs.MovesOf.{at-end}
 use Rattle.framing.proofs.state.FrameDecoder.sized.Needs as need

@@ -1,7 +1,7 @@
 use borrow.Author.Needs.{needs}
-use mathlib.Core.Path.{_≡_, refl, sym, ap, _∙_}
+use mathlib.Core.Path.{_≡_, ap}
 use mathlib.Core.List.{[], _∷_, _++_}
-use Prim.Native.Nat.{ℕ, _+_, _-_, _<_, _≤_, min}
+use Prim.Native.Nat.{_+_, _-_, _<_, _≤_, min}
 use native.Mathlib.Omega.{arith}
 use lib.ListN.{length, getD, take}
 use Rattle.std.proofs.shelf.Lists.{nil-from-length}
@@ -9,7 +9,7 @@ use Rattle.std.proofs.shelf.Results.{err-from-errBy}
 use Rattle.message.specs.Messages.{factsOf}
 use Rattle.framing.specs.Within.{reach, held, spans, fills}
 use Rattle.framing.specs.Frames.{Envelope}
-use Rattle.framing.specs.Steps.{opened, gathered, filled}
+use Rattle.framing.specs.Steps.{opened, gathered}
 use Rattle.framing.specs.Views.{holdsOf}
 use Rattle.framing.proofs.TurnOf.{Acted, turn-ok, turn-err, opening-turn, metadata-turn, body-turn, behind-end, no-byte}
 use Rattle.framing.proofs.state.FrameDecoder.turn.Given as given
