@@ -60,7 +60,10 @@ fn list<R: Reading, S: Read>(
             Ok(n) => n,
             Err(e) => {
                 let file = options.file.as_str();
-                return Err(format!(heap, "can't read '{file}': {e}; give a file that can be read")?.into());
+                return Err(format!(
+                    heap,
+                    "can't read '{file}': {e}; give a file that can be read"
+                )?.into());
             }
         };
         let mut rest = block.as_slice().get(0..n).unwrap_or(&[]);

@@ -12,13 +12,8 @@ use Rattle.std.proofs.shelf.Lists.{nil-from-length}
 use Rattle.std.proofs.shelf.Tests.{cases-lt}
 use Rattle.little.specs.Numbers.{le, numberIn, numberAt}
 use Rattle.little.proofs.Spelled.{byte-inside, number-inside, number-outside}
-use Rattle.message.specs.Listed.{nth}
-use Rattle.message.proofs.Listed.{nth-past}
-
-nth-in : {A : Type 0} (xs : List A) (k : ℕ) (d : A) → k < length xs → nth xs k ≡ Some (getD xs k d)
-nth-in [] k d h = absurd (omega arith)
-nth-in (x ∷ xs) zero d h = refl
-nth-in (x ∷ xs) (suc k) d h = nth-in xs k d (omega arith)
+use Rattle.std.proofs.shelf.Maps.{nth-getD, nth-past}
+use Rattle.std.specs.shelf.Maps.{nth}
 
 nth-take : {A : Type 0} (xs : List A) (n k : ℕ) → k < n → nth (take n xs) k ≡ nth xs k
 nth-take [] zero k h = absurd (omega arith)
@@ -28,7 +23,7 @@ nth-take (x ∷ xs) (suc n) zero h = refl
 nth-take (x ∷ xs) (suc n) (suc k) h = nth-take xs n k (omega arith)
 
 pub row-in : {A : Type 0} (xs : List A) (n k : ℕ) (d : A) → n ≤ length xs → k < n → Some (getD xs k d) ≡ nth (take n xs) k
-row-in xs n k d l h = sym (nth-take xs n k h ∙ nth-in xs k d (omega arith))
+row-in xs n k d l h = sym (nth-take xs n k h ∙ nth-getD xs k d (omega arith))
 
 pub row-past : {A : Type 0} (xs : List A) (n k : ℕ) → n ≤ length xs → n ≤ k → None ≡ nth (take n xs) k
 row-past xs n k l h = sym (nth-past (take n xs) k (omega (arith, length-take-le n xs l)))

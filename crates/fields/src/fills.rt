@@ -4,7 +4,7 @@ ghost use mathlib.Core.Path.{_≡_};
 ghost use Prim.Native.Nat.{ℕ, _<_, _≤_};
 ghost use lib.ListN.{length, set};
 ghost use Rattle.std.specs.Options.{Cases};
-ghost use Rattle.message.specs.Listed.{nth};
+ghost use Rattle.std.specs.shelf.Maps.{nth};
 ghost use Rattle.fields.specs.Walks.{held};
 use crate::rows::Rows;
 use message::NO_ROW;

@@ -1,16 +1,8 @@
 -- Parts of the bytes, with the bytes themselves in the place of the references to them.
-use Prim.Native.Nat.{ℕ}
-use mathlib.Core.List.{List, []}
-use denote.Ref.{RefT, now}
-use Rattle.std.specs.Options.{mapped}
-use Rattle.std.specs.declared.option.Option.{Option}
-use Rattle.std.specs.declared.option.Option.the-variants.{Some, None}
+use denote.Ref.{now}
 use Rattle.flatbuf.specs.declared.batches.Batch.{Batch}
 use Rattle.flatbuf.specs.declared.batches.DictionaryBatch.{DictionaryBatch}
 use Rattle.flatbuf.specs.Flat.{Dictionary, Parts}
-
-abbrev pub shownPart : Option (RefT (List ℕ)) → Option (List ℕ)
-shownPart = mapped now
 
 abbrev pub partsIn : Batch → Parts
 partsIn b = record { long = b .long; compressed = b .compressed; missing = b .missing; nodes = now (b .nodes); buffers = now (b .buffers); counts = now (b .counts) }

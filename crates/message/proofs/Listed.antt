@@ -10,7 +10,9 @@ use Rattle.std.specs.Iters.{counting}
 use Rattle.std.specs.declared.option.Option.{Option}
 use Rattle.std.specs.declared.option.Option.the-variants.{Some, None}
 use Rattle.std.proofs.shelf.Counted.{length-map-counting}
-use Rattle.message.specs.Listed.{nth, listed}
+use Rattle.std.proofs.shelf.Maps.{nth-past}
+use Rattle.std.specs.shelf.Maps.{nth}
+use Rattle.message.specs.Listed.{listed}
 
 nth-counted : {A : Type 0} (f : ℕ → A) (a n k : ℕ) → k < n → nth (map f (counting a n)) k ≡ Some (f (a + k))
 nth-counted f a zero k h = absurd (omega arith)
@@ -18,11 +20,6 @@ nth-counted f a (suc n) zero h = let e : a ≡ a + 0 = omega arith in ap (λ i. 
 nth-counted f a (suc n) (suc k) h =
     let e : a + 1 + k ≡ a + suc k = omega arith in
     nth-counted f (a + 1) n k (omega arith) ∙ ap (λ i. Some (f i)) e
-
-pub nth-past : {A : Type 0} (xs : List A) (k : ℕ) → length xs ≤ k → nth xs k ≡ None
-nth-past [] k h = refl
-nth-past (x ∷ xs) zero h = absurd (omega arith)
-nth-past (x ∷ xs) (suc k) h = nth-past xs k (omega arith)
 
 module _ {A : Type 0} (width : ℕ) (item : List ℕ → ℕ → A) (part : List ℕ) where
   pub length-listed : length (listed width item part) ≡ length part / width

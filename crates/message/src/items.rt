@@ -3,7 +3,7 @@ ghost use mathlib.Core.Path.{_≡_};
 ghost use Prim.Native.Nat.{ℕ, _+_, _≤_};
 ghost use lib.ListN.{length};
 ghost use Rattle.message.specs.Items.{countAt, nodesIn, buffersIn, countsIn};
-ghost use Rattle.message.specs.Listed.{nth};
+ghost use Rattle.std.specs.shelf.Maps.{nth};
 
 // The length of a column and how many of its slots are absent.
 #[derive(Clone, Copy)]

@@ -3,7 +3,7 @@ ghost use mathlib.Core.Path.{_≡_};
 ghost use mathlib.Core.List.{List};
 ghost use Prim.Native.Nat.{ℕ};
 ghost use Rattle.message.specs.Messages.{Read, factsOf, rowsOf, nodesOf, buffersOf, countsOf};
-ghost use Rattle.message.specs.Listed.{nth};
+ghost use Rattle.std.specs.shelf.Maps.{nth};
 use crate::headers::Facts;
 use crate::items::Buffer;
 use crate::items::Node;

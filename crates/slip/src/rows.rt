@@ -2,7 +2,7 @@
 ghost use mathlib.Core.Path.{_≡_};
 ghost use Prim.Native.Nat.{_+_, _≤_};
 ghost use lib.ListN.{length};
-ghost use Rattle.message.specs.Listed.{nth};
+ghost use Rattle.std.specs.shelf.Maps.{nth};
 ghost use Rattle.slip.specs.Slips.{rowAt, rowsIn};
 use crate::numbers::i64_in;
 use crate::numbers::u8_in;

@@ -11,7 +11,7 @@ use Rattle.std.specs.declared.option.Option.{Option}
 use Rattle.std.specs.declared.option.Option.the-variants.{Some, None}
 use Rattle.little.specs.Maybe.{andThen}
 use Rattle.little.specs.Numbers.{numberIn}
-use Rattle.message.specs.Listed.{nth}
+use Rattle.std.specs.shelf.Maps.{nth}
 use Rattle.tables.specs.declared.Table.{Table}
 use Rattle.tables.specs.Tables.{tableAt, i16Of, i32Of, boolOf, presentOf, targetOf, vectorAt}
 use Rattle.types.specs.declared.shapes.TableType.{TableType}

@@ -1,5 +1,5 @@
 use mathlib.Core.Path.{sym, ap, _∙_}
-use Rattle.message.specs.Listed.{nth}
+use Rattle.std.specs.shelf.Maps.{nth}
 use Rattle.flatbuf.proofs.Told.{nodesIn-none}
 use Rattle.flatbuf.proofs.FlatBuffersReading.node.Needs as need
 
