@@ -10,3 +10,4 @@ pub mod Stands
 pub mod MovesOf
 pub mod TurnOf
 pub mod AdvanceOf
+pub mod Parted

@@ -7,3 +7,4 @@ pub mod Calls
 pub mod Views
 pub mod Turns
 pub mod Runs
+pub mod Parts
