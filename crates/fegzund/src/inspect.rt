@@ -16,7 +16,7 @@ use std::io::Read;
 const BLOCK: usize = 262144;
 
 // Lists the stream, and says whether it is accepted.
-pub fn inspect(rt: &LibcRuntime, options: Options) -> Result<bool, AnyError> {
+pub(crate) fn inspect(rt: &LibcRuntime, options: Options) -> Result<bool, AnyError> {
     if options.file.as_str() == "-" {
         let mut source = rt.stdin();
         return read_as(rt, &options, &mut source);

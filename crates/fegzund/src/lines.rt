@@ -4,6 +4,7 @@ use framing::FrameHead;
 use message::BatchFacts;
 use message::Fault;
 use message::Header;
+use message::NO_ROW;
 use message::Place;
 use message::Reading;
 use message::Row;
@@ -14,7 +15,7 @@ use std::io::Write;
 
 // Lines that are not written yet.
 #[derive(Drop)]
-pub struct Listing {
+pub(crate) struct Listing {
     text: Vec<u8>,
 }
 
@@ -22,21 +23,21 @@ pub struct Listing {
 const LONG: usize = 65536;
 
 impl Listing {
-    pub fn new(heap: Global) -> Listing {
+    pub(crate) fn new(heap: Global) -> Listing {
         Listing {
             text: Vec::new(heap),
         }
     }
 
     // Writes the lines once there are many.
-    pub fn write_long(&mut self, rt: &LibcRuntime) -> Result<(), AnyError> {
+    pub(crate) fn write_long(&mut self, rt: &LibcRuntime) -> Result<(), AnyError> {
         if self.text.len() >= LONG {
             self.write_all(rt)?;
         }
         Ok(())
     }
 
-    pub fn write_all(&mut self, rt: &LibcRuntime) -> Result<(), AnyError> {
+    pub(crate) fn write_all(&mut self, rt: &LibcRuntime) -> Result<(), AnyError> {
         rt.stdout().write_all(self.text.as_slice())?;
         self.text.clear();
         Ok(())
@@ -87,7 +88,7 @@ impl Listing {
         self.number(" position ", place.position)
     }
 
-    pub fn event<R: Reading>(
+    pub(crate) fn event<R: Reading>(
         &mut self,
         reading: &R,
         metadata: &[u8],
@@ -123,14 +124,7 @@ impl Listing {
         header: Header,
     ) -> Result<(), AllocError> {
         match header {
-            Header::Schema { rows } => {
-                for k in 0..rows {
-                    if let Some(row) = reading.row(metadata, k) {
-                        self.row(k, row)?;
-                    }
-                }
-                Ok(())
-            }
+            Header::Schema { rows } => self.rows(reading, metadata, rows),
             Header::DictionaryBatch { id, delta, data } => {
                 self.signed("dictionary id ", id)?;
                 self.mark(" delta ", delta)?;
@@ -143,6 +137,26 @@ impl Listing {
             }
             Header::Empty | Header::Other { .. } => Ok(()),
         }
+    }
+
+    // The rows of a schema: those that a table has room for at once, and then any others.
+    fn rows<R: Reading>(
+        &mut self,
+        reading: &R,
+        metadata: &[u8],
+        count: usize,
+    ) -> Result<(), AllocError> {
+        let mut table = [NO_ROW; 256];
+        let n = reading.rows(metadata, &mut table);
+        for (k, row) in table.iter().take(n).enumerate() {
+            self.row(k, *row)?;
+        }
+        for k in n..count {
+            if let Some(row) = reading.row(metadata, k) {
+                self.row(k, row)?;
+            }
+        }
+        Ok(())
     }
 
     fn row(&mut self, k: usize, row: Row) -> Result<(), AllocError> {
@@ -224,7 +238,7 @@ impl Listing {
         Ok(())
     }
 
-    pub fn refused(&mut self, fault: Fault) -> Result<(), AllocError> {
+    pub(crate) fn refused(&mut self, fault: Fault) -> Result<(), AllocError> {
         self.number("refused ", u64::from(fault.refusal.number()))?;
         if let Some(place) = fault.place {
             self.place(" message ", place)?;
@@ -233,7 +247,7 @@ impl Listing {
     }
 
     // The last line, and whether the stream is accepted.
-    pub fn finish(&mut self, end: Result<(), Fault>) -> Result<bool, AllocError> {
+    pub(crate) fn finish(&mut self, end: Result<(), Fault>) -> Result<bool, AllocError> {
         match end {
             Ok(()) => {
                 self.word("finish ok\n")?;

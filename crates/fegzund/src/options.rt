@@ -2,7 +2,7 @@
 use std::alloc::Global;
 use std::error::AnyError;
 
-pub const HELP: &str = "\
+pub(crate) const HELP: &str = "\
 fegzund: lists what a recorded Arrow IPC stream holds
 
     fegzund inspect [OPTIONS] FILE     the frames of a stream, and what their metadata say
@@ -37,21 +37,21 @@ The exit status is 0 where the stream is accepted, and 1 where it is refused or 
 
 // How metadata are read.
 #[derive(Clone, Copy)]
-pub enum Form {
+pub(crate) enum Form {
     FlatBuffers,
     Slip,
 }
 
 #[derive(Drop)]
-pub struct Options {
-    pub form: Form,
-    pub metadata: usize,
-    pub body: usize,
-    pub file: String,
+pub(crate) struct Options {
+    pub(crate) form: Form,
+    pub(crate) metadata: usize,
+    pub(crate) body: usize,
+    pub(crate) file: String,
 }
 
 #[derive(Drop)]
-pub enum Command {
+pub(crate) enum Command {
     Help,
     Inspect(Options),
 }
@@ -65,7 +65,7 @@ enum Expected {
     BodyHold,
 }
 
-pub fn parse(heap: Global, words: &[String]) -> Result<Command, AnyError> {
+pub(crate) fn parse(heap: Global, words: &[String]) -> Result<Command, AnyError> {
     let Some(word) = words.get(1) else {
         return Err("no command; write 'fegzund inspect FILE', or 'fegzund help' for all of it".into());
     };

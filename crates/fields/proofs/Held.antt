@@ -1,6 +1,6 @@
 -- The rows in a table.
 use mathlib.Core.Path.{_≡_, refl, sym, _∙_, ap}
-use mathlib.Core.List.{List, [], _∷_}
+use mathlib.Core.List.{List, [], _∷_, _++_}
 use Prim.Native.Nat.{ℕ, zero, suc, _+_, _<_, _≤_, _^_}
 use native.Mathlib.Omega.{arith}
 use lib.ListN.{length, getD, take, drop, length-drop}
@@ -8,7 +8,8 @@ use lib.Seq.{length-take-le}
 use Rattle.std.specs.Options.{valueOr}
 use Rattle.std.specs.declared.option.Option.the-variants.{Some, None}
 use mathlib.Core.Logic.{⊎-elim}
-use Rattle.std.proofs.shelf.Lists.{nil-from-length}
+use Rattle.std.proofs.shelf.Lists.{nil-from-length, take-take}
+use Rattle.message.specs.Listed.{laid}
 use Rattle.std.proofs.shelf.Tests.{cases-lt}
 use Rattle.little.specs.Numbers.{le, numberIn, numberAt}
 use Rattle.little.proofs.Spelled.{byte-inside, number-inside, number-outside}
@@ -41,3 +42,7 @@ byte-or-0 bs p = ⊎-elim
     (λ h. ap (λ o. valueOr o 0) (number-inside 1 bs p (omega arith)))
     (λ h. ap (λ o. valueOr o 0) (number-outside 1 bs p (omega arith)) ∙ byte-past bs p (omega arith))
     (cases-lt p (length bs))
+
+-- the first n rows of a table, laid into another
+pub copied : {A : Type 0} (items table last : List A) (len n : ℕ) → last ≡ take n items → n ≤ len → last ++ drop n table ≡ laid n (take len items) table
+copied items table last len n e h = ap (λ l. l ++ drop n table) (e ∙ sym (take-take n len items h))

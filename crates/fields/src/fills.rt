@@ -1,10 +1,11 @@
 // How a table of rows is filled and read.
 ghost use mathlib.Core.List.{List, [], _∷_, _++_};
 ghost use mathlib.Core.Path.{_≡_};
-ghost use Prim.Native.Nat.{ℕ, _<_, _≤_};
+ghost use Prim.Native.Nat.{ℕ, _<_, _≤_, min};
 ghost use lib.ListN.{length, set};
 ghost use Rattle.std.specs.Options.{Cases};
 ghost use Rattle.std.specs.shelf.Maps.{nth};
+ghost use Rattle.message.specs.Listed.{laid};
 ghost use Rattle.fields.specs.Walks.{held};
 use crate::rows::Rows;
 use message::NO_ROW;
@@ -36,6 +37,16 @@ impl Rows {
         } else {
             None
         }
+    }
+
+    // Puts the rows at the front of a table, as many as it has room for, and answers how many.
+    pub fn copy_to(&self, table: &mut [Row]) -> usize
+        ensures count { λ n. ⌜ n ≡ min (length (held (now (self .entry)))) (length (now (table .entry))) ⌝ }
+        ensures table { λ n. ⌜ now (table .exit) ≡ laid n (held (now (self .entry))) (now (table .entry)) ⌝ }
+    {
+        let n = self.len.min(table.len());
+        table[0..n].copy_from_slice(&self.items[0..n]);
+        n
     }
 
     // One row more, where there is room for it.

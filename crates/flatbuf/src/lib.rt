@@ -38,6 +38,13 @@ pub impl Reading for FlatBuffers as FlatBuffersReading {
         rows.get(k)
     }
 
+    fn rows(&self, bytes: &[u8], table: &mut [Row]) -> usize {
+        match rows_of(bytes) {
+            Some(rows) => rows.copy_to(table),
+            None => 0,
+        }
+    }
+
     fn node(&self, bytes: &[u8], k: usize) -> Option<Node> {
         let batch = batch_of(bytes)?;
         node_in(batch.nodes, k)
