@@ -8,6 +8,7 @@ use framing::FrameDecoder;
 use message::Reading;
 use slip::Slip;
 use slip::SlipReading;
+use std::alloc::Global;
 use std::error::AnyError;
 use std::fs::File;
 use std::io::Read;
@@ -27,7 +28,7 @@ pub(crate) fn inspect(rt: &LibcRuntime, options: Options) -> Result<bool, AnyErr
             let file = options.file.as_str();
             return Err(format!(
                 rt.alloc(),
-                "can't open '{file}': {e}; give the path of a file that can be read"
+                "can't open '{file}': {e}; give a file that can be read"
             )?.into());
         }
     };
@@ -47,41 +48,79 @@ fn list<R: Reading, S: Read>(
     options: &Options,
     source: &mut S,
 ) -> Result<bool, AnyError> {
-    let heap = rt.alloc();
-    let mut metadata = vec![in heap; 0u8; options.metadata]?;
-    let mut body = vec![in heap; 0u8; options.body]?;
-    let mut block = vec![in heap; 0u8; BLOCK]?;
-    let mut listing = Listing::new(heap);
-    let Ok(mut decoder) = FrameDecoder::new(options.metadata, options.body) else {
-        return Err("the holds are too short or too long; write 'fegzund help' for their lengths".into());
-    };
+    let mut inspection = Inspection::new(rt.alloc(), options)?;
+    let mut block = vec![in rt.alloc(); 0u8; BLOCK]?;
     for _ in 0..u64::MAX {
         let n = match source.read(block.as_mut_slice()) {
             Ok(n) => n,
             Err(e) => {
                 let file = options.file.as_str();
                 return Err(format!(
-                    heap,
+                    rt.alloc(),
                     "can't read '{file}': {e}; give a file that can be read"
                 )?.into());
             }
         };
-        let mut rest = block.as_slice().get(0..n).unwrap_or(&[]);
-        if rest.is_empty() {
+        if n == 0 {
             break;
         }
-        for _ in 0..n {
-            match decoder.advance(reading, metadata.as_mut_slice(), body.as_mut_slice(), rest) {
+        let bytes = block.as_slice().get(0..n).unwrap_or(&[]);
+        if !inspection.block(rt, reading, bytes)? {
+            return Ok(false);
+        }
+    }
+    inspection.end(rt)
+}
+
+// A stream that is being listed.
+#[derive(Drop)]
+struct Inspection {
+    decoder: FrameDecoder,
+    metadata: Vec<u8>,
+    body: Vec<u8>,
+    listing: Listing,
+}
+
+impl Inspection {
+    fn new(heap: Global, options: &Options) -> Result<Inspection, AnyError> {
+        let Ok(decoder) = FrameDecoder::new(options.metadata, options.body) else {
+            return Err("the holds are too short or too long; write 'fegzund help' for their lengths".into());
+        };
+        Ok(Inspection {
+            decoder,
+            metadata: vec![in heap; 0u8; options.metadata]?,
+            body: vec![in heap; 0u8; options.body]?,
+            listing: Listing::new(heap),
+        })
+    }
+
+    // The frames that a block makes whole; false where the stream is refused.
+    fn block<R: Reading>(
+        &mut self,
+        rt: &LibcRuntime,
+        reading: &R,
+        block: &[u8],
+    ) -> Result<bool, AnyError> {
+        let mut rest = block;
+        // each turn uses a byte at least
+        for _ in 0..block.len() {
+            match self.decoder.advance(
+                reading,
+                self.metadata.as_mut_slice(),
+                self.body.as_mut_slice(),
+                rest,
+            ) {
                 Ok(step) => {
                     rest = rest.get(step.used..).unwrap_or(&[]);
                     if let Some(event) = step.event {
-                        listing.event(reading, metadata.as_slice(), event)?;
-                        listing.write_long(rt)?;
+                        self.listing
+                            .event(reading, self.metadata.as_slice(), event)?;
+                        self.listing.write_long(rt)?;
                     }
                 }
                 Err(fault) => {
-                    listing.refused(fault)?;
-                    listing.write_all(rt)?;
+                    self.listing.refused(fault)?;
+                    self.listing.write_all(rt)?;
                     return Ok(false);
                 }
             }
@@ -89,8 +128,13 @@ fn list<R: Reading, S: Read>(
                 break;
             }
         }
+        Ok(true)
     }
-    let accepted = listing.finish(decoder.check_end())?;
-    listing.write_all(rt)?;
-    Ok(accepted)
+
+    // The last line; whether the stream is accepted.
+    fn end(&mut self, rt: &LibcRuntime) -> Result<bool, AnyError> {
+        let accepted = self.listing.finish(self.decoder.check_end())?;
+        self.listing.write_all(rt)?;
+        Ok(accepted)
+    }
 }
