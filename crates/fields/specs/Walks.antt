@@ -1,7 +1,9 @@
 -- Nested fields, read within one another, as rows in preorder.
 use Prim.Native.Nat.{ℕ, zero, suc, _+_, _<_}
+use mathlib.Core.Bool.{cond}
 use mathlib.Core.List.{List, [], _∷_, _++_}
 use mathlib.Core.Path.{_≡_}
+use lib.Dec.{leb}
 use lib.IntN.{ℤ, pos}
 use lib.ListN.{length, take}
 use Rattle.std.specs.Options.{mapped}
@@ -12,6 +14,7 @@ use Rattle.message.specs.declared.rows.Row.{Row}
 use Rattle.tables.specs.Tables.{itemOf}
 use Rattle.types.specs.declared.shapes.Typed.{Typed}
 use Rattle.types.specs.declared.shapes.Tags.{Tags}
+use Rattle.types.specs.declared.shapes.Tags.the-variants.{Zero}
 use Rattle.fields.specs.declared.parts.Children.{Children}
 use Rattle.fields.specs.declared.parts.Field.{Field}
 use Rattle.fields.specs.declared.parts.Index.{Index}
@@ -57,6 +60,15 @@ unfoldable pub walkAt : ℕ → List ℕ → Walk
 walkAt zero bs before p tag = None
 walkAt (suc zero) bs before p tag = andThen (fieldAt bs p) (λ f. fieldRows (walkAt zero bs) None bs before tag f (f .index))
 walkAt (suc (suc d)) bs before p tag = andThen (fieldAt bs p) (λ f. fieldRows (walkAt (suc d) bs) (Some (walkAt d bs)) bs before tag f (f .index))
+
+-- a schema has at most 256 rows
+abbrev pub few : Option (List Row) → Option (List Row)
+few None = None
+few (Some rows) = cond (leb (length rows) 256) (Some rows) None
+
+-- the rows of a vector of fields, at most 16 deep
+unfoldable pub rowsAt : List ℕ → Children → Option (List Row)
+rowsAt bs fields = few (childRows (walkAt 16 bs) bs Zero (fields .at) (fields .count) 0 0)
 
 -- the rows in a table
 abbrev pub held : Rows → List Row

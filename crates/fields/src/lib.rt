@@ -8,4 +8,4 @@ mod walks;
 pub use parts::Children;
 pub use reads::children_of;
 pub use rows::Rows;
-pub use walks::read_children;
+pub use walks::read_fields;

@@ -87,7 +87,7 @@ fn index_of(bytes: &[u8], dictionary: Option<usize>) -> Option<Option<Index>>
     }
 }
 
-pub fn field_at(bytes: &[u8], at: usize) -> Option<Field>
+pub(crate) fn field_at(bytes: &[u8], at: usize) -> Option<Field>
     ensures { λ r. ⌜ r ≡ fieldAt (now (bytes .entry)) at ⌝ }
 {
     let table = table_at(bytes, at)?;

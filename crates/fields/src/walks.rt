@@ -4,7 +4,7 @@ ghost use Prim.Native.Nat.{ℕ, _+_, _^_, _<_};
 ghost use lib.ListN.{length};
 ghost use Rattle.std.specs.Options.{mapped};
 ghost use Rattle.fields.specs.Fields.{tagOf};
-ghost use Rattle.fields.specs.Walks.{Reads, childRows, held, indexRows, kidsOf, plainRows, rowOf, walkAt};
+ghost use Rattle.fields.specs.Walks.{Reads, childRows, held, indexRows, kidsOf, plainRows, rowOf, rowsAt, walkAt};
 use crate::parts::Children;
 use crate::parts::Field;
 use crate::parts::Index;
@@ -16,6 +16,9 @@ use message::Row;
 use tables::item;
 use types::Tags;
 use types::Typed;
+
+// How deep the rows of a schema go at most.
+const DEPTH: u8 = 16;
 
 // The tag of child k.
 fn tag_of(bytes: &[u8], tags: Tags, k: u32) -> u8
@@ -46,7 +49,7 @@ fn row_of(of: Typed, tag: u8, id: i64, end: usize) -> Row
 }
 
 // Fields, one after the other: each whole before the next.
-pub fn read_children(
+fn read_children(
     bytes: &[u8],
     children: Children,
     tags: Tags,
@@ -112,4 +115,13 @@ fn read_indexed(
     rows.put(own, row_of(index.row, tag, index.id, end));
     rows.put(own + 1, row_of(field.shape.row, 0, 0, end));
     Some(())
+}
+
+// The rows of a vector of fields.
+pub fn read_fields(bytes: &[u8], fields: Children) -> Option<Rows>
+    ensures { λ r. ⌜ mapped held r ≡ rowsAt (now (bytes .entry)) fields ⌝ }
+{
+    let mut rows = Rows::new();
+    read_children(bytes, fields, Tags::Zero, DEPTH, &mut rows)?;
+    Some(rows)
 }

@@ -15,10 +15,8 @@ use Rattle.message.specs.Messages.{Columns, Contents, nothing, schema, dictiona
 use Rattle.tables.specs.declared.Table.{Table}
 use Rattle.tables.specs.Tables.{tableAt, u8Of, i16Of, i64Of, boolOf, presentOf, leads, targetOf, vectorAt}
 use Rattle.types.specs.Choices.{is}
-use Rattle.types.specs.declared.shapes.Tags.the-variants.{Zero}
-use Rattle.fields.specs.declared.parts.Children.{Children}
 use Rattle.fields.specs.Fields.{childrenOf}
-use Rattle.fields.specs.Walks.{childRows, walkAt}
+use Rattle.fields.specs.Walks.{rowsAt}
 use Rattle.flatbuf.specs.declared.heads.Head.{Head}
 
 -- the items of a vector in a slot, where the field is there
@@ -77,15 +75,6 @@ dictionaryAt bs p =
     andThen (boolOf false bs t 2) (λ delta.
     andThen (targetOf bs t 1) (λ o.
     mapped (λ parts. record { id = id; delta = delta; parts = parts }) (dataAt bs o)))))
-
--- a schema has at most 256 rows
-abbrev pub few : Option (List Row) → Option (List Row)
-few None = None
-few (Some rows) = cond (leb (length rows) 256) (Some rows) None
-
--- the rows of a vector of fields, at most 16 deep
-unfoldable pub rowsAt : List ℕ → Children → Option (List Row)
-rowsAt bs fields = few (childRows (walkAt 16 bs) bs Zero (fields .at) (fields .count) 0 0)
 
 -- endianness, of which Big is refused; fields
 unfoldable pub schemaAt : List ℕ → ℕ → Option (List Row)

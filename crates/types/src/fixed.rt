@@ -35,7 +35,7 @@ fn between(low: u32, high: u32, n: i32) -> Option<u32>
     if low <= n && n <= high { Some(n) } else { None }
 }
 
-pub fn int_width(bits: i32) -> Option<u32>
+fn int_width(bits: i32) -> Option<u32>
     ensures { λ r. ⌜ r ≡ besideZ intWidths bits ⌝ }
 {
     match bits {
@@ -70,7 +70,7 @@ fn width_by(widths: &[u32], unit: i16) -> Option<u32>
 }
 
 // A type by its unit or its precision.
-pub fn unit_row(bytes: &[u8], table: Table, default: i16, widths: &[u32]) -> Option<Typed>
+pub(crate) fn unit_row(bytes: &[u8], table: Table, default: i16, widths: &[u32]) -> Option<Typed>
     ensures { λ r. ⌜ r ≡ unitRow default (now (widths .entry)) (now (bytes .entry)) table ⌝ }
 {
     let unit = table.i16_or(bytes, 0, default)?;
@@ -89,7 +89,7 @@ fn time_width(unit: i16, bits: i32) -> Option<u32>
     None
 }
 
-pub fn time_row(bytes: &[u8], table: Table) -> Option<Typed>
+pub(crate) fn time_row(bytes: &[u8], table: Table) -> Option<Typed>
     ensures { λ r. ⌜ r ≡ timeRow (now (bytes .entry)) table ⌝ }
 {
     let unit = table.i16_or(bytes, 0, 1)?;
@@ -112,7 +112,7 @@ fn decimal_width(precision: i32, scale: i32, bits: i32) -> Option<u32>
     }
 }
 
-pub fn decimal_row(bytes: &[u8], table: Table) -> Option<Typed>
+pub(crate) fn decimal_row(bytes: &[u8], table: Table) -> Option<Typed>
     ensures { λ r. ⌜ r ≡ decimalRow (now (bytes .entry)) table ⌝ }
 {
     let precision = table.i32_or(bytes, 0, 0)?;
@@ -121,14 +121,14 @@ pub fn decimal_row(bytes: &[u8], table: Table) -> Option<Typed>
     Some(fixed(0, decimal_width(precision, scale, bits)))
 }
 
-pub fn binary_row(bytes: &[u8], table: Table) -> Option<Typed>
+pub(crate) fn binary_row(bytes: &[u8], table: Table) -> Option<Typed>
     ensures { λ r. ⌜ r ≡ binaryRow (now (bytes .entry)) table ⌝ }
 {
     let width = table.i32_or(bytes, 0, 0)?;
     Some(fixed(0, between(1, 1024, width)))
 }
 
-pub fn list_row(bytes: &[u8], table: Table) -> Option<Typed>
+pub(crate) fn list_row(bytes: &[u8], table: Table) -> Option<Typed>
     ensures { λ r. ⌜ r ≡ listRow (now (bytes .entry)) table ⌝ }
 {
     let size = table.i32_or(bytes, 0, 0)?;

@@ -74,7 +74,7 @@ fn union_by(kind: Option<u8>, tags: Option<Tags>) -> Shape
     }
 }
 
-pub fn union_shape(bytes: &[u8], table: Table, n: u32) -> Option<Shape>
+pub(crate) fn union_shape(bytes: &[u8], table: Table, n: u32) -> Option<Shape>
     ensures { λ r. ⌜ r ≡ unionShape n (now (bytes .entry)) table ⌝ }
 {
     let mode = table.i16_or(bytes, 0, 0)?;

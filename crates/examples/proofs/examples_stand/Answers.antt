@@ -7,8 +7,8 @@ use Rattle.slip.specs.Slips.{slipLists, slipMeaning}
 use Rattle.tables.specs.Tables.{placeIn, tableAt, fieldOf, leads, vectorAt, itemOf}
 use Rattle.types.specs.Types.{intRow, mapShape, shapeOf, tableShape, unionShape, unitRow}
 use Rattle.fields.specs.Fields.{childrenOf, fieldAt, indexAt}
-use Rattle.fields.specs.Walks.{childRows, walkAt}
-use Rattle.flatbuf.specs.Flat.{batchAt, contentsAt, flatMeaning, headAt, rowsAt, schemaAt, vectorOf}
+use Rattle.fields.specs.Walks.{childRows, rowsAt, walkAt}
+use Rattle.flatbuf.specs.Flat.{batchAt, contentsAt, flatMeaning, headAt, schemaAt, vectorOf}
 use Rattle.examples.specs.Cases.{Ends, Frames, SlipCase, FlatCase}
 use Rattle.examples.proofs.examples_stand.Needs as need
 

@@ -12,10 +12,9 @@ use Rattle.std.specs.declared.option.Option.the-variants.{Some, None}
 use Rattle.std.proofs.shelf.Tests.{le-leb, lt-leb}
 use Rattle.message.specs.declared.rows.Row.{Row}
 use Rattle.types.specs.declared.shapes.Tags.the-variants.{Zero}
 use Rattle.fields.specs.declared.parts.Children.{Children}
 use Rattle.fields.specs.declared.rows.Rows.{Rows}
-use Rattle.fields.specs.Walks.{Reads, childRows, walkAt, held}
-use Rattle.flatbuf.specs.Flat.{few, rowsAt}
+use Rattle.fields.specs.Walks.{Reads, childRows, few, held, rowsAt, walkAt}
 
 few-none : (o : Option (List Row)) → ((rows : List Row) → o ≡ Some rows → 256 < length rows) → few o ≡ None
 few-none None h = refl
