@@ -1,2 +1,4 @@
 pub mod Kinds
 pub mod Schemas
+pub mod Takings
+pub mod Queues
