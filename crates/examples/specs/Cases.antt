@@ -16,6 +16,7 @@ use Rattle.framing.specs.Frames.{Holds, Envelope, frame, end}
 use Rattle.framing.specs.Streams.{Stream, well, short, by, start, stream}
 use Rattle.slip.specs.Slips.{slipMeaning}
 use Rattle.flatbuf.specs.Flat.{flatMeaning}
+use Rattle.texts.specs.Utf8.{wellFormed}
 
 abbrev pub holds : Holds
 holds = record { metadata = 100; body = 4 }
@@ -111,5 +112,14 @@ pub record FlatCase : Type 0 where
   })
   pub short : flatMeaning (take 20 schemaBytes) ≡ None
 
+-- U+0061, U+00E9, U+20AC and U+1F9E9; U+0000 in two bytes; a surrogate, U+D800; U+110000; a character cut short; a byte that only goes on
+pub record TextCase : Type 0 where
+  pub whole : wellFormed (0x61 ∷ 0xc3 ∷ 0xa9 ∷ 0xe2 ∷ 0x82 ∷ 0xac ∷ 0xf0 ∷ 0x9f ∷ 0xa7 ∷ 0xa9 ∷ []) ≡ true
+  pub long : wellFormed (0xc0 ∷ 0x80 ∷ []) ≡ false
+  pub surrogate : wellFormed (0xed ∷ 0xa0 ∷ 0x80 ∷ []) ≡ false
+  pub above : wellFormed (0xf4 ∷ 0x90 ∷ 0x80 ∷ 0x80 ∷ []) ≡ false
+  pub cut : wellFormed (0xe2 ∷ 0x82 ∷ []) ≡ false
+  pub alone : wellFormed (0x80 ∷ []) ≡ false
+
 abbrev pub Examples : Type 0
-Examples = Ends × Frames × SlipCase × FlatCase
+Examples = Ends × Frames × SlipCase × FlatCase × TextCase

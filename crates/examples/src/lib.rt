@@ -1,7 +1,7 @@
 // Definitions of the format, worked out on examples.
 ghost use Rattle.examples.specs.Cases.{Examples};
 
-// Streams, slips and FlatBuffers are what their definitions give for these bytes.
+// Streams, slips, FlatBuffers and text are what their definitions give for these bytes.
 pub fn examples_stand() -> u8
     ensures { λ _. ⌜ Examples ⌝ }
 {

@@ -9,7 +9,7 @@ use Rattle.types.specs.Types.{intRow, mapShape, shapeOf, tableShape, unionShape
 use Rattle.fields.specs.Fields.{childrenOf, fieldAt, indexAt}
 use Rattle.fields.specs.Walks.{childRows, rowsAt, walkAt}
 use Rattle.flatbuf.specs.Flat.{batchAt, contentsAt, flatMeaning, headAt, schemaAt, vectorOf}
-use Rattle.examples.specs.Cases.{Ends, Frames, SlipCase, FlatCase}
+use Rattle.examples.specs.Cases.{Ends, Frames, SlipCase, FlatCase, TextCase}
 use Rattle.examples.proofs.examples_stand.Needs as need
 
 ends : Ends
@@ -28,5 +28,8 @@ flat : FlatCase
 unfolding numberIn numberAt listed placeIn tableAt fieldOf leads vectorAt itemOf intRow mapShape shapeOf tableShape unionShape unitRow childrenOf fieldAt indexAt childRows walkAt batchAt contentsAt flatMeaning headAt rowsAt schemaAt vectorOf
 flat = record { told = refl; rows = refl; short = refl }
 
+text : TextCase
+text = record { whole = refl; long = refl; surrogate = refl; above = refl; cut = refl; alone = refl }
+
 pub returns : need.returns
-returns c = (ends, framed, slip, flat)
+returns c = (ends, framed, slip, flat, text)
