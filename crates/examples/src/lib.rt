@@ -2,8 +2,6 @@
 ghost use Rattle.examples.specs.Cases.{Examples};
 
 // Streams, slips, FlatBuffers and text are what their definitions give for these bytes.
-pub fn examples_stand() -> u8
+pub fn examples_stand()
     ensures { λ _. ⌜ Examples ⌝ }
-{
-    0
-}
+{}

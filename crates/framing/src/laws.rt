@@ -2,8 +2,6 @@
 ghost use Rattle.framing.specs.Parts.{Frames-are-their-parts};
 
 // The bytes of a stream begin with a whole frame exactly when they are its opening, its metadata, its body and what follows.
-pub fn frames_are_their_parts() -> u8
+pub fn frames_are_their_parts()
     ensures { λ _. ⌜ Frames-are-their-parts ⌝ }
-{
-    0
-}
+{}
