@@ -1,4 +1,6 @@
 // Text: UTF-8 by RFC 3629.
+pub mod laws;
+
 ghost use mathlib.Core.Path.{_≡_};
 ghost use Prim.Native.Nat.{_<_, _≤_};
 ghost use lib.ListN.{length};
