@@ -1,4 +1,6 @@
 // What dictionaries are, as lists of values and as the bytes of a store.
+#![tactic(auto)]
+
 ghost use Rattle.dictionaries.specs.Areas.{AreasStandForLists};
 ghost use Rattle.dictionaries.specs.Stores.{ReadBack, Replaces, RoomAgain, RoomIsLength};
 

@@ -1,4 +1,6 @@
 // Definitions of the format, worked out on examples.
+#![tactic(auto)]
+
 ghost use Rattle.examples.specs.All.{MoreExamples};
 ghost use Rattle.examples.specs.Cases.{Examples};
 

@@ -1,4 +1,6 @@
 // Lists what a recorded Arrow stream holds.
+#![tactic(auto)]
+
 mod inspect;
 mod lines;
 mod listing;

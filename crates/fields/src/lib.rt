@@ -1,4 +1,6 @@
 // The fields of a schema in FlatBuffers, as rows.
+#![tactic(auto)]
+
 mod fills;
 pub mod parts;
 mod reads;

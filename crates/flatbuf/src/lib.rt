@@ -1,4 +1,6 @@
 // Metadata in the form of FlatBuffers.
+#![tactic(auto)]
+
 ghost use Rattle.flatbuf.specs.Flat.{flat_meaning};
 
 mod answers;

@@ -1,4 +1,6 @@
 // How a stream of bytes is cut into frames, in whatever pieces it comes.
+#![tactic(auto)]
+
 mod decoder;
 pub mod events;
 pub mod laws;

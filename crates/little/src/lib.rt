@@ -1,4 +1,6 @@
 // Little-endian numbers within bytes: each read answers the number, or nothing where the bytes do not have it whole.
+#![tactic(auto)]
+
 ghost use Rattle.std.specs.Prelude.{◌≡◌};
 ghost use Rattle.little.specs.Numbers.{u8_at, u16_at, u32_at, u64_at, i16_at, i32_at, i64_at};
 

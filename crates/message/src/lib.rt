@@ -1,4 +1,6 @@
 // What the metadata of an Arrow message says, and the trait of its readings.
+#![tactic(auto)]
+
 pub mod faults;
 pub mod headers;
 pub mod items;

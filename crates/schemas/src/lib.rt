@@ -1,4 +1,6 @@
 // Which rows are a schema.
+#![tactic(auto)]
+
 pub mod kinds;
 pub mod laws;
 

@@ -1,4 +1,6 @@
 // The slip form of metadata: lists, and behind them a trailer of 64 bytes that says where they are.
+#![tactic(auto)]
+
 ghost use Rattle.slip.specs.Slips.{slip_meaning};
 
 mod facts;

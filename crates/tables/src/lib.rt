@@ -1,5 +1,7 @@
 // FlatBuffers, as far as they are read: tables, vtables, fields and vectors within bytes.
 // A read that leaves the bytes answers nothing.
+#![tactic(auto)]
+
 ghost use Rattle.std.specs.Prelude.{◌≡◌, ℕ, ◌+◌, ◌*◌, ◌<◌};
 ghost use Rattle.std.specs.Option.{option_map};
 ghost use Rattle.tables.specs.Tables.{place_in, vtable_place, table_at, field_place, field_of, u8_of, i16_of, i32_of, i64_of, bool_of, present_of, leads, target_of, vector_at, item_of};

@@ -1,4 +1,6 @@
 // Text: UTF-8 by RFC 3629.
+#![tactic(auto)]
+
 pub mod laws;
 
 ghost use Rattle.std.specs.Prelude.{◌≡◌, ◌<◌, ◌≤◌, true, false, length, MatchOption};

@@ -1,4 +1,6 @@
 // Which row an Arrow type gives, by the type's number and its FlatBuffers table.
+#![tactic(auto)]
+
 mod fixed;
 pub mod shapes;
 pub mod types;
