@@ -1,5 +1,5 @@
 -- Little-endian numbers within a list of bytes.
-use Rattle.std.specs.Prelude.{ℕ, ◌+◌, ◌*◌, Bool, true, false, List, [], ◌∷◌, length, take, drop, ℤ, Some, None, Option, nat_le}
+use Rattle.std.specs.Prelude.{ℕ, ◌+◌, ◌*◌, true, false, List, [], ◌∷◌, length, take, drop, ℤ, Some, None, Option, nat_le}
 use Rattle.std.proofs.Common.{to_z}
 use Rattle.std.specs.Int.{Width, w16, w32, w64}
 use Rattle.std.specs.Option.{option_map}

@@ -1,4 +1,4 @@
-use Rattle.std.proofs.Common.{◌≡◌, ◌<◌, ◌≤◌, length, take, drop, sym, ◌∙◌, arith, rules}
+use Rattle.std.proofs.Common.{◌≡◌, ◌<◌, ◌≤◌, length, take, drop, sym, arith, rules}
 use Rattle.std.proofs.lemmas.List.{take_rest}
 use Rattle.little.specs.Numbers.{le}
 use Rattle.little.proofs.Spelled.{number_front, number_short, number_outside, le_places}
@@ -7,8 +7,8 @@ use Rattle.little.proofs.u16_at.Goals as goal
 pub returns-then-at-bytes : goal.returns-then-at-bytes
 returns-then-at-bytes c = sym (number_outside 2 c.args.bytes.now c.args.at (omega arith))
 
-pub returns-in-default : goal.returns-in-default
-returns-in-default c =
+pub returns-in_default : goal.returns-in_default
+returns-in_default c =
     let h : length (drop c.args.at c.args.bytes.now) < 2 = search (rules, take_rest) in
     sym (number_short 2 c.args.bytes.now c.args.at h)
 
@@ -16,6 +16,6 @@ pub returns-in-len2-up : goal.returns-in-len2-up
 returns-in-len2-up c =
     let ys = drop c.args.at c.args.bytes.now in
     let h : 2 ≤ length ys = search (rules, take_rest) in
-    let e = rw take_rest at c.from-le-bytes.ensures in
-    let v : c.from-le-bytes.result ≡ le (take 2 ys) = omega (arith, e, le_places 1 ys 0 (omega arith), le_places 0 ys 1 (omega arith)) in
-    number_front 2 c.args.bytes.now c.args.at c.from-le-bytes.result (omega arith) h v
+    let e = rw take_rest at c.from_le_bytes.ensures in
+    let v : c.from_le_bytes.result ≡ le (take 2 ys) = omega (arith, e, le_places 1 ys 0 (omega arith), le_places 0 ys 1 (omega arith)) in
+    number_front 2 c.args.bytes.now c.args.at c.from_le_bytes.result (omega arith) h v

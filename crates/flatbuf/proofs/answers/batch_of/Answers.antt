@@ -35,8 +35,8 @@ returns-in-3 c = record {
   counts = batch_list c.args.bytes.now c.in-ok-head.head counts_in counts_in_none (λ p. p.counts) (λ l. l.counts) (λ p. refl) c.in-ok-head.ensures c.in-3.is (option_map parts_in c.batch-at.result) c.batch-at.ensures;
 }
 
-pub returns-in-default : goal.returns-in-default
-returns-in-default c = record {
+pub returns-in_default : goal.returns-in_default
+returns-in_default c = record {
   nodes = list_else c.args.bytes.now c.in-ok-head.head nodes_in nodes_in_none (λ p. p.nodes) (λ l. l.nodes) (λ p. refl) c.in-ok-head.ensures (search rules) (search rules);
   buffers = list_else c.args.bytes.now c.in-ok-head.head buffers_in buffers_in_none (λ p. p.buffers) (λ l. l.buffers) (λ p. refl) c.in-ok-head.ensures (search rules) (search rules);
   counts = list_else c.args.bytes.now c.in-ok-head.head counts_in counts_in_none (λ p. p.counts) (λ l. l.counts) (λ p. refl) c.in-ok-head.ensures (search rules) (search rules);

@@ -29,5 +29,5 @@ pub returns-in-ok-batch-2 : goal.returns-in-ok-batch-2
 returns-in-ok-batch-2 c =
     batch_header c.args.bytes.now c.args.head c.in-3.is (parts_in c.in-ok-batch-2.batch) c.batch-facts-in-3.result c.in-ok-batch-2.ensures c.batch-facts-in-3.ensures
 
-pub returns-in-default : goal.returns-in-default
-returns-in-default c = other_header c.args.bytes.now c.args.head (search rules) (search rules) (search rules) (search rules)
+pub returns-in_default : goal.returns-in_default
+returns-in_default c = other_header c.args.bytes.now c.args.head (search rules) (search rules) (search rules) (search rules)

@@ -12,5 +12,5 @@ returns-in-err-head c = ap (λ o. or_none (option_map held o)) c.from-residual.e
 pub returns-in-1 : goal.returns-in-1
 returns-in-1 c = rows_at c.args.bytes.now c.in-ok-head.head c.in-ok-head.ensures c.in-1.is (option_map held c.schema-at.result) c.schema-at.ensures
 
-pub returns-in-default : goal.returns-in-default
-returns-in-default c = rows_else c.args.bytes.now c.in-ok-head.head c.in-ok-head.ensures (search rules)
+pub returns-in_default : goal.returns-in_default
+returns-in_default c = rows_else c.args.bytes.now c.in-ok-head.head c.in-ok-head.ensures (search rules)

@@ -13,8 +13,8 @@ returns-in-17 c = c.map-shape.ensures ∙ shape_map c.args.bytes.now c.args.fiel
 
 pub returns-in-Some-table-type : goal.returns-in-Some-table-type
 returns-in-Some-table-type c =
-    c.table-shape.ensures ∙ shape_table c.args.bytes.now c.args.field c.args.children c.args.number (Some c.in-Some-table-type.of) c.in-default.ensures (search rules) (search rules) c.in-Some-table-type.ensures
+    c.table-shape.ensures ∙ shape_table c.args.bytes.now c.args.field c.args.children c.args.number (Some c.in-Some-table-type.of) c.in_default.ensures (search rules) (search rules) c.in-Some-table-type.ensures
 
 pub returns-in-None : goal.returns-in-None
 returns-in-None c =
-    ap Some c.plainly-in-None.ensures ∙ shape_table c.args.bytes.now c.args.field c.args.children c.args.number None c.in-default.ensures (search rules) (search rules) c.in-None.ensures
+    ap Some c.plainly-in-None.ensures ∙ shape_table c.args.bytes.now c.args.field c.args.children c.args.number None c.in_default.ensures (search rules) (search rules) c.in-None.ensures

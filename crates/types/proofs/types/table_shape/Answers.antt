@@ -6,9 +6,9 @@ pub returns-in-err-at : goal.returns-in-err-at
 unfolding table_shape
 returns-in-err-at c = search rules
 
-pub returns-in-default : goal.returns-in-default
+pub returns-in_default : goal.returns-in_default
 unfolding table_shape
-returns-in-default c = search rules
+returns-in_default c = search rules
 
 pub returns-in-err-table : goal.returns-in-err-table
 unfolding table_shape

@@ -8,7 +8,7 @@ use Rattle.framing.proofs.state.FrameDecoder.opened.Goals as goal
 use Rattle.framing.proofs.state.FrameDecoder.opened.Goals.{In-default}
 
 more : (c : In-default) → Opening (take c.args.got c.args.bytes)
-more c = not_whole (take c.args.got c.args.bytes) c.opening-in-marked.result.0 c.opening-in-marked.result.1 c.opening-in-marked.ensures c.in-default.is
+more c = not_whole (take c.args.got c.args.bytes) c.opening-in-marked.result.0 c.opening-in-marked.result.1 c.opening-in-marked.ensures c.in_default.is
 
 pub invariant-of-self : goal.invariant-of-self
 invariant-of-self c =
@@ -19,9 +19,9 @@ invariant-of-self c =
     let m : c.args.got < 8 = omega (arith, (more c).more, b.1) in
     (d.few, (d.limited, (omega arith, (omega arith, (omega arith, (omega arith, (omega arith, (omega arith, tt))))))))
 
-pub returns-in-default : goal.returns-in-default
-returns-in-default c =
-    opening_more c.args.self.now _ c.args.bytes (take c.args.got c.args.bytes) c.args.got refl (more (goal.at.returns-in-default c).In-default) (record { metadata = refl; body = refl }) refl refl
+pub returns-in_default : goal.returns-in_default
+returns-in_default c =
+    opening_more c.args.self.now _ c.args.bytes (take c.args.got c.args.bytes) c.args.got refl (more (goal.at.returns-in_default c).In-default) (record { metadata = refl; body = refl }) refl refl
 
 pub returns : goal.returns
 returns c =

@@ -77,10 +77,10 @@ pub returns-in-Finished-len1-up : goal.returns-in-Finished-len1-up
 returns-in-Finished-len1-up g c =
     behind_end (λ bs. facts_of (g.R.Reading.meaning c.args.reading.now bs)) c.args.self.now c.stop.new.self c.args.metadata.now c.args.body.now c.args.rest.now (search rules) c.in-Finished-len1-up.is-0 c.stop.result c.stop.ensures
 
-pub returns-in-default-empty : goal.returns-in-default-empty
-returns-in-default-empty g c =
-    no_byte (λ bs. facts_of (g.R.Reading.meaning c.args.reading.now bs)) c.args.self.now c.args.metadata.now c.args.body.now c.args.rest.now (nil_from_length c.args.rest.now (search rules)) c.in-default-empty.not-Stopped-0
+pub returns-in_default-empty : goal.returns-in_default-empty
+returns-in_default-empty g c =
+    no_byte (λ bs. facts_of (g.R.Reading.meaning c.args.reading.now bs)) c.args.self.now c.args.metadata.now c.args.body.now c.args.rest.now (nil_from_length c.args.rest.now (search rules)) c.in_default-empty.not-Stopped-0
 
-pub returns-in-default-empty·2 : goal.returns-in-default-empty·2
-returns-in-default-empty·2 g c =
-    no_byte (λ bs. facts_of (g.R.Reading.meaning c.args.reading.now bs)) c.args.self.now c.args.metadata.now c.args.body.now c.args.rest.now (nil_from_length c.args.rest.now (search rules)) c.in-default-empty.not-Stopped-0
+pub returns-in_default-empty·2 : goal.returns-in_default-empty·2
+returns-in_default-empty·2 g c =
+    no_byte (λ bs. facts_of (g.R.Reading.meaning c.args.reading.now bs)) c.args.self.now c.args.metadata.now c.args.body.now c.args.rest.now (nil_from_length c.args.rest.now (search rules)) c.in_default-empty.not-Stopped-0
