@@ -2,29 +2,29 @@ use Rattle.std.proofs.Common.{rules}
 use Rattle.fields.specs.Fields.{field_at}
 use Rattle.fields.proofs.reads.field_at.Goals as goal
 
-pub returns-in-err-table : goal.returns-in-err-table
+pub returns-in_err-table : goal.returns-in_err-table
 unfolding field_at
-returns-in-err-table c = search rules
+returns-in_err-table c = search rules
 
-pub returns-in-err-number : goal.returns-in-err-number
+pub returns-in_err-number : goal.returns-in_err-number
 unfolding field_at
-returns-in-err-number c = search rules
+returns-in_err-number c = search rules
 
-pub returns-in-err-children : goal.returns-in-err-children
+pub returns-in_err-children : goal.returns-in_err-children
 unfolding field_at
-returns-in-err-children c = search rules
+returns-in_err-children c = search rules
 
-pub returns-in-err-shape : goal.returns-in-err-shape
+pub returns-in_err-shape : goal.returns-in_err-shape
 unfolding field_at
-returns-in-err-shape c = search rules
+returns-in_err-shape c = search rules
 
-pub returns-in-err-dictionary : goal.returns-in-err-dictionary
+pub returns-in_err-dictionary : goal.returns-in_err-dictionary
 unfolding field_at
-returns-in-err-dictionary c = search rules
+returns-in_err-dictionary c = search rules
 
-pub returns-in-err-index : goal.returns-in-err-index
+pub returns-in_err-index : goal.returns-in_err-index
 unfolding field_at
-returns-in-err-index c = search rules
+returns-in_err-index c = search rules
 
 pub returns : goal.returns
 unfolding field_at

@@ -4,8 +4,8 @@ use Rattle.fields.specs.Walks.{held}
 use Rattle.fields.proofs.Few.{rows_refused, rows_read}
 use Rattle.fields.proofs.walks.read_fields.Goals as goal
 
-pub returns-in-err-read-children : goal.returns-in-err-read-children
-returns-in-err-read-children c = ap (option_map held) c.from-residual.ensures ∙ rows_refused c.args.bytes.now c.args.fields c.new-rows.result c.read-children.new.rows c.new-rows.ensures c.in-err-read-children.ensures
+pub returns-in_err-read_children : goal.returns-in_err-read_children
+returns-in_err-read_children c = ap (option_map held) c.from-residual.ensures ∙ rows_refused c.args.bytes.now c.args.fields c.new-rows.result c.read_children.new.rows c.new-rows.ensures c.in_err-read_children.ensures
 
 pub returns : goal.returns
-returns c = rows_read c.args.bytes.now c.args.fields c.new-rows.result c.read-children.new.rows c.new-rows.ensures c.in-ok-read-children.ensures
+returns c = rows_read c.args.bytes.now c.args.fields c.new-rows.result c.read_children.new.rows c.new-rows.ensures c.in_ok-read_children.ensures

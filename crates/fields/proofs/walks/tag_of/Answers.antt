@@ -6,7 +6,7 @@ use Rattle.fields.proofs.walks.tag_of.Goals as goal
 
 pub returns-in-Some : goal.returns-in-Some
 returns-in-Some c =
-    c.unwrap-or.ensures ∙ ap (λ o. unwrap_or o 0) (c.u8-at.ensures ∙ ap (number_at 1 c.args.bytes.now) c.in-Some.ensures.1) ∙ byte_or_0 c.args.bytes.now (c.in-Listed.at + (4 + 4 * c.args.k))
+    c.unwrap_or.ensures ∙ ap (λ o. unwrap_or o 0) (c.u8_at.ensures ∙ ap (number_at 1 c.args.bytes.now) c.in-Some.ensures.1) ∙ byte_or_0 c.args.bytes.now (c.in-Listed.at + (4 + 4 * c.args.k))
     ∙ ap (λ t. tag_of c.args.bytes.now t c.args.k) (sym c.in-Listed.is)
 
 pub returns-in-None : goal.returns-in-None

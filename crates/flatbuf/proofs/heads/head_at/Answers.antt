@@ -2,29 +2,29 @@ use Rattle.std.proofs.Common.{rules}
 use Rattle.flatbuf.specs.Flat.{head_at}
 use Rattle.flatbuf.proofs.heads.head_at.Goals as goal
 
-pub returns-in-err-root : goal.returns-in-err-root
+pub returns-in_err-root : goal.returns-in_err-root
 unfolding head_at
-returns-in-err-root c = search rules
+returns-in_err-root c = search rules
 
-pub returns-in-err-message : goal.returns-in-err-message
+pub returns-in_err-message : goal.returns-in_err-message
 unfolding head_at
-returns-in-err-message c = search rules
+returns-in_err-message c = search rules
 
-pub returns-in-err-version : goal.returns-in-err-version
+pub returns-in_err-version : goal.returns-in_err-version
 unfolding head_at
-returns-in-err-version c = search rules
+returns-in_err-version c = search rules
 
-pub returns-in-err-number : goal.returns-in-err-number
+pub returns-in_err-number : goal.returns-in_err-number
 unfolding head_at
-returns-in-err-number c = search rules
+returns-in_err-number c = search rules
 
-pub returns-in-err-body : goal.returns-in-err-body
+pub returns-in_err-body : goal.returns-in_err-body
 unfolding head_at
-returns-in-err-body c = search rules
+returns-in_err-body c = search rules
 
-pub returns-in-err-at : goal.returns-in-err-at
+pub returns-in_err-at : goal.returns-in_err-at
 unfolding head_at
-returns-in-err-at c = search rules
+returns-in_err-at c = search rules
 
 pub returns : goal.returns
 unfolding head_at

@@ -7,9 +7,9 @@ pub returns : goal.returns
 returns c =
     let h = c.args.hold.now in
     let n = c.min-n.result in
-    let ys = c.copy-from-slice.new.self in
+    let ys = c.copy_from_slice.new.self in
     let within : n ≤ length c.args.rest.now = omega (arith, c.min-n.ensures) in
-    let is : ys ≡ take n c.args.rest.now = c.copy-from-slice.ensures.after in
+    let is : ys ≡ take n c.args.rest.now = c.copy_from_slice.ensures.after in
     let l : length ys ≡ n = ap length is ∙ length-take-le n c.args.rest.now within in
     record {
       count = c.min-n.ensures;

@@ -10,7 +10,7 @@ unfolding marks
 returns-in-255 c =
     let long : 4 ≤ length c.args.bytes.now = search rules in
     let is : marks c.args.bytes.now ≡ true = grind (arith, nat_tests) in
-    opening_marked c.args.bytes.now c.u32-at.result long is c.u32-at.ensures
+    opening_marked c.args.bytes.now c.u32_at.result long is c.u32_at.ensures
 
 pub returns-in_default : goal.returns-in_default
 unfolding marks
@@ -22,4 +22,4 @@ returns-in_default c =
       | in_default-via-else-bytes-lt4+in-255·+in_default· w ↦ grind (arith, nat_tests)
       | in_default-via-else-bytes-lt4+in_default· w ↦ grind (arith, nat_tests)
     ] in
-    opening_unmarked c.args.bytes.now c.u32-at-in_default.result is c.u32-at-in_default.ensures
+    opening_unmarked c.args.bytes.now c.u32_at-in_default.result is c.u32_at-in_default.ensures

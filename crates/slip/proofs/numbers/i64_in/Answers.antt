@@ -5,9 +5,9 @@ use Rattle.slip.proofs.Same.{same_some}
 use Rattle.slip.proofs.numbers.i64_in.Goals as goal
 
 pub unwrap-requires : goal.unwrap-requires
-unwrap-requires c = ap is_some (c.i64-at.ensures ∙ signed_inside w64 8 c.args.bytes.now c.args.at c.requires)
+unwrap-requires c = ap is_some (c.i64_at.ensures ∙ signed_inside w64 8 c.args.bytes.now c.args.at c.requires)
 
 pub returns : goal.returns
 returns c =
     let fits : SFits w64 c.unwrap.result = search rules in
-    to_z-of_z w64 c.unwrap.result fits ∙ same_some c.i64-at.result _ _ c.unwrap.ensures (c.i64-at.ensures ∙ signed_inside w64 8 c.args.bytes.now c.args.at c.requires)
+    to_z-of_z w64 c.unwrap.result fits ∙ same_some c.i64_at.result _ _ c.unwrap.ensures (c.i64_at.ensures ∙ signed_inside w64 8 c.args.bytes.now c.args.at c.requires)

@@ -4,7 +4,7 @@ use Rattle.slip.proofs.Same.{same_some}
 use Rattle.slip.proofs.numbers.u32_in.Goals as goal
 
 pub unwrap-requires : goal.unwrap-requires
-unwrap-requires c = ap is_some (c.u32-at.ensures ∙ number_inside 4 c.args.bytes.now c.args.at c.requires)
+unwrap-requires c = ap is_some (c.u32_at.ensures ∙ number_inside 4 c.args.bytes.now c.args.at c.requires)
 
 pub returns : goal.returns
-returns c = same_some c.u32-at.result _ _ c.unwrap.ensures (c.u32-at.ensures ∙ number_inside 4 c.args.bytes.now c.args.at c.requires)
+returns c = same_some c.u32_at.result _ _ c.unwrap.ensures (c.u32_at.ensures ∙ number_inside 4 c.args.bytes.now c.args.at c.requires)

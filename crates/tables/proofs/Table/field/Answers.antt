@@ -6,13 +6,13 @@ pub returns-then-entry-self : goal.returns-then-entry-self
 unfolding field_of
 returns-then-entry-self c = search rules
 
-pub returns-in-err-p : goal.returns-in-err-p
+pub returns-in_err-p : goal.returns-in_err-p
 unfolding field_of
-returns-in-err-p c = search rules
+returns-in_err-p c = search rules
 
-pub returns-in-err-by : goal.returns-in-err-by
+pub returns-in_err-by : goal.returns-in_err-by
 unfolding field_of
-returns-in-err-by c = search rules
+returns-in_err-by c = search rules
 
 pub returns : goal.returns
 unfolding field_of

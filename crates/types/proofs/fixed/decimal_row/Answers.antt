@@ -2,17 +2,17 @@ use Rattle.std.proofs.Common.{rules}
 use Rattle.types.specs.Types.{decimal_row}
 use Rattle.types.proofs.fixed.decimal_row.Goals as goal
 
-pub returns-in-err-precision : goal.returns-in-err-precision
+pub returns-in_err-precision : goal.returns-in_err-precision
 unfolding decimal_row
-returns-in-err-precision c = search rules
+returns-in_err-precision c = search rules
 
-pub returns-in-err-scale : goal.returns-in-err-scale
+pub returns-in_err-scale : goal.returns-in_err-scale
 unfolding decimal_row
-returns-in-err-scale c = search rules
+returns-in_err-scale c = search rules
 
-pub returns-in-err-bits : goal.returns-in-err-bits
+pub returns-in_err-bits : goal.returns-in_err-bits
 unfolding decimal_row
-returns-in-err-bits c = search rules
+returns-in_err-bits c = search rules
 
 pub returns : goal.returns
 unfolding decimal_row

@@ -2,9 +2,9 @@ use Rattle.std.proofs.Common.{rules}
 use Rattle.types.specs.Types.{list_row}
 use Rattle.types.proofs.fixed.list_row.Goals as goal
 
-pub returns-in-err-size : goal.returns-in-err-size
+pub returns-in_err-size : goal.returns-in_err-size
 unfolding list_row
-returns-in-err-size c = search rules
+returns-in_err-size c = search rules
 
 pub returns-in-Some : goal.returns-in-Some
 unfolding list_row

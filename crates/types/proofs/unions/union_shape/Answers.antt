@@ -2,17 +2,17 @@ use Rattle.std.proofs.Common.{rules}
 use Rattle.types.specs.Types.{union_shape}
 use Rattle.types.proofs.unions.union_shape.Goals as goal
 
-pub returns-in-err-mode : goal.returns-in-err-mode
+pub returns-in_err-mode : goal.returns-in_err-mode
 unfolding union_shape
-returns-in-err-mode c = search rules
+returns-in_err-mode c = search rules
 
-pub returns-in-err-ids : goal.returns-in-err-ids
+pub returns-in_err-ids : goal.returns-in_err-ids
 unfolding union_shape
-returns-in-err-ids c = search rules
+returns-in_err-ids c = search rules
 
-pub returns-in-err-tags : goal.returns-in-err-tags
+pub returns-in_err-tags : goal.returns-in_err-tags
 unfolding union_shape
-returns-in-err-tags c = search rules
+returns-in_err-tags c = search rules
 
 pub returns : goal.returns
 unfolding union_shape

@@ -4,16 +4,16 @@ use Rattle.message.specs.Messages.{facts_of}
 use Rattle.framing.proofs.AdvanceOf.{one_more, ends_with, refuses}
 use Rattle.framing.proofs.state.FrameDecoder.advance.Goals as goal
 
-pub returns-in-err-turn : goal.returns-in-err-turn
-returns-in-err-turn g c =
+pub returns-in_err-turn : goal.returns-in_err-turn
+returns-in_err-turn g c =
     let p = err_from_is_err_and c.from-residual.result c.from-residual.ensures.1 in
     rw (p.1, p.2)
-    (refuses (λ bs. facts_of (g.R.Reading.meaning c.args.reading.now bs)) c.args.self.now c.args.metadata.now c.args.body.now c.args.piece.now c.loop-turn.used (c.if-metadata-self.false, c.if-body-self.false) c.loop-turn.self c.loop-turn.metadata c.loop-turn.body c.loop-turn.invariant c.turn.new.self c.turn.new.metadata c.turn.new.body (c.turn.auto.metadata ∙ c.loop-turn.auto.metadata) (c.turn.auto.body ∙ c.loop-turn.auto.body) c.in-err-turn.field-0.0 c.in-err-turn.ensures)
+    (refuses (λ bs. facts_of (g.R.Reading.meaning c.args.reading.now bs)) c.args.self.now c.args.metadata.now c.args.body.now c.args.piece.now c.loop-turn.used (c.if-metadata-self.false, c.if-body-self.false) c.loop-turn.self c.loop-turn.metadata c.loop-turn.body c.loop-turn.invariant c.turn.new.self c.turn.new.metadata c.turn.new.body (c.turn.auto.metadata ∙ c.loop-turn.auto.metadata) (c.turn.auto.body ∙ c.loop-turn.auto.body) c.in_err-turn.field-0.0 c.in_err-turn.ensures)
 
-pub returns-then-is-some : goal.returns-then-is-some
-returns-then-is-some g c =
-    ends_with (λ bs. facts_of (g.R.Reading.meaning c.args.reading.now bs)) c.args.self.now c.args.metadata.now c.args.body.now c.args.piece.now c.loop-turn.used (c.if-metadata-self.false, c.if-body-self.false) c.loop-turn.self c.loop-turn.metadata c.loop-turn.body c.loop-turn.invariant c.turn.new.self c.turn.new.metadata c.turn.new.body (c.turn.auto.metadata ∙ c.loop-turn.auto.metadata) (c.turn.auto.body ∙ c.loop-turn.auto.body) c.in-ok-turn.turn.used c.in-ok-turn.turn.event c.is-some.result c.is-some.ensures c.then-is-some.either c.in-ok-turn.ensures
+pub returns-then-is_some : goal.returns-then-is_some
+returns-then-is_some g c =
+    ends_with (λ bs. facts_of (g.R.Reading.meaning c.args.reading.now bs)) c.args.self.now c.args.metadata.now c.args.body.now c.args.piece.now c.loop-turn.used (c.if-metadata-self.false, c.if-body-self.false) c.loop-turn.self c.loop-turn.metadata c.loop-turn.body c.loop-turn.invariant c.turn.new.self c.turn.new.metadata c.turn.new.body (c.turn.auto.metadata ∙ c.loop-turn.auto.metadata) (c.turn.auto.body ∙ c.loop-turn.auto.body) c.in_ok-turn.turn.used c.in_ok-turn.turn.event c.is_some.result c.is_some.ensures c.then-is_some.either c.in_ok-turn.ensures
 
 pub loop-turn-preserved : goal.loop-turn-preserved
 loop-turn-preserved g c =
-    one_more (λ bs. facts_of (g.R.Reading.meaning c.args.reading.now bs)) c.args.self.now c.args.metadata.now c.args.body.now c.args.piece.now c.loop-turn.used (c.if-metadata-self.false, c.if-body-self.false) c.loop-turn.self c.loop-turn.metadata c.loop-turn.body c.loop-turn.invariant c.turn.new.self c.turn.new.metadata c.turn.new.body (c.turn.auto.metadata ∙ c.loop-turn.auto.metadata) (c.turn.auto.body ∙ c.loop-turn.auto.body) c.in-ok-turn.turn.used c.in-ok-turn.turn.event (sym c.if-is-some.ensures) c.in-ok-turn.ensures
+    one_more (λ bs. facts_of (g.R.Reading.meaning c.args.reading.now bs)) c.args.self.now c.args.metadata.now c.args.body.now c.args.piece.now c.loop-turn.used (c.if-metadata-self.false, c.if-body-self.false) c.loop-turn.self c.loop-turn.metadata c.loop-turn.body c.loop-turn.invariant c.turn.new.self c.turn.new.metadata c.turn.new.body (c.turn.auto.metadata ∙ c.loop-turn.auto.metadata) (c.turn.auto.body ∙ c.loop-turn.auto.body) c.in_ok-turn.turn.used c.in_ok-turn.turn.event (sym c.if-is_some.ensures) c.in_ok-turn.ensures

@@ -8,10 +8,10 @@ use Rattle.framing.proofs.state.FrameDecoder.opened.Goals as goal
 use Rattle.framing.proofs.state.FrameDecoder.opened.Goals.{In-default}
 
 more : (c : In-default) → Opening (take c.args.got c.args.bytes)
-more c = not_whole (take c.args.got c.args.bytes) c.opening-in-marked.result.0 c.opening-in-marked.result.1 c.opening-in-marked.ensures c.in_default.is
+more c = not_whole (take c.args.got c.args.bytes) c.opening_in-marked.result.0 c.opening_in-marked.result.1 c.opening_in-marked.ensures c.in_default.is
 
-pub invariant-of-self : goal.invariant-of-self
-invariant-of-self c =
+pub invariant_of-self : goal.invariant_of-self
+invariant_of-self c =
     let d = c.args.self.now in
     let e : length c.args.bytes ≡ 8 = search rules in
     let l : length (take c.args.got c.args.bytes) ≡ c.args.got = length-take-le c.args.got c.args.bytes (omega (arith, c.requires)) in
@@ -27,6 +27,6 @@ pub returns : goal.returns
 returns c =
     let d = c.args.self.now in
     let got = take c.args.got c.args.bytes in
-    let marked = c.opening-in-marked.result.0 in
-    let e = whole got marked c.opening-in-marked.result.1 c.opening-in-marked.ensures (holds_of d) d.place c.in-Some.size c.in-Some.is in
+    let marked = c.opening_in-marked.result.0 in
+    let e = whole got marked c.opening_in-marked.result.1 c.opening_in-marked.ensures (holds_of d) d.place c.in-Some.size c.in-Some.is in
     opening_sized d c.sized.new.self got got marked c.in-Some.size c.sized.result refl e c.sized.ensures

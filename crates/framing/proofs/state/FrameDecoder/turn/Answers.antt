@@ -12,17 +12,17 @@ use Rattle.framing.proofs.state.FrameDecoder.turn.Goals as goal
 use Rattle.framing.proofs.state.FrameDecoder.turn.Goals.{After-opened, After-gathered}
 
 -- bytes of an opening
-opening_acted : (g : given.Over) (c : After-opened g) → Acted (λ bs. facts_of (g.R.Reading.meaning c.args.reading.now bs)) c.args.self.now c.args.metadata.now c.args.body.now c.args.rest.now c.fill-opening-used.result.1 (opened (holds_of c.args.self.now) c.args.self.now.place (take (c.in-Header-len1-up.got + c.fill-opening-used.result.1) c.fill-opening-used.result.0))
+opening_acted : (g : given.Over) (c : After-opened g) → Acted (λ bs. facts_of (g.R.Reading.meaning c.args.reading.now bs)) c.args.self.now c.args.metadata.now c.args.body.now c.args.rest.now c.fill_opening-used.result.1 (opened (holds_of c.args.self.now) c.args.self.now.place (take (c.in-Header-len1-up.got + c.fill_opening-used.result.1) c.fill_opening-used.result.0))
 opening_acted g c =
     let bytes = c.in-Header-len1-up.bytes in
     let got = c.in-Header-len1-up.got in
-    let n = c.fill-opening-used.result.1 in
+    let n = c.fill_opening-used.result.1 in
     let o = ap opens c.in-Header-len1-up.is-0 in
     let r = ap room c.in-Header-len1-up.is-0 in
     let some : 0 < length c.args.rest.now = search rules in
-    let m : n ≡ min (max (opening (marks (take got bytes))) (got + 1) - got) (length c.args.rest.now) = c.fill-opening-used.ensures.count in
+    let m : n ≡ min (max (opening (marks (take got bytes))) (got + 1) - got) (length c.args.rest.now) = c.fill_opening-used.ensures.count in
     let fits : got ≤ length bytes = omega (arith, c.args.self.now.bytes) in
-    opening_turn (λ bs. facts_of (g.R.Reading.meaning c.args.reading.now bs)) c.args.self.now c.args.metadata.now c.args.body.now c.args.rest.now bytes c.fill-opening-used.result.0 got n c.in-Header-len1-up.is-0 fits (omega arith) (omega arith) (omega arith) c.fill-opening-used.ensures.front
+    opening_turn (λ bs. facts_of (g.R.Reading.meaning c.args.reading.now bs)) c.args.self.now c.args.metadata.now c.args.body.now c.args.rest.now bytes c.fill_opening-used.result.0 got n c.in-Header-len1-up.is-0 fits (omega arith) (omega arith) (omega arith) c.fill_opening-used.ensures.front
 
 -- bytes of metadata
 metadata_acted : (g : given.Over) (c : After-gathered g) → Acted (λ bs. facts_of (g.R.Reading.meaning c.args.reading.now bs)) c.args.self.now c.args.metadata.now c.args.body.now c.args.rest.now c.fill-used.result (gathered (holds_of c.args.self.now) (λ bs. facts_of (g.R.Reading.meaning c.args.reading.now bs)) c.args.self.now.place c.in-Message-default.marked c.in-Message-default.size (take (c.in-Message-default.got + c.fill-used.result) c.fill-used.new.hold))
@@ -37,23 +37,23 @@ metadata_acted g c =
     let fits : size ≤ length c.args.metadata.now = omega (arith, c.args.self.now.size, c.requires.0) in
     metadata_turn (λ bs. facts_of (g.R.Reading.meaning c.args.reading.now bs)) c.args.self.now c.args.metadata.now c.args.body.now c.fill-used.new.hold c.args.rest.now c.in-Message-default.marked size got n c.in-Message-default.is-0 more fits (omega (arith, m)) (omega (arith, m)) (λ k. omega (arith, m)) c.fill-used.ensures.front
 
-pub returns-in-err-event : goal.returns-in-err-event
-returns-in-err-event g c =
+pub returns-in_err-event : goal.returns-in_err-event
+returns-in_err-event g c =
     let p = err_from_is_err_and c.from-residual.result c.from-residual.ensures.1 in
-    rw (p.1, p.2) (turn_err (λ bs. facts_of (g.R.Reading.meaning c.args.reading.now bs)) c.args.self.now c.opened.new.self c.args.metadata.now c.args.body.now c.args.metadata.now c.args.body.now c.args.rest.now c.fill-opening-used.result.1 _ (opening_acted g (goal.at.returns-in-err-event g c).After-opened) c.in-err-event.field-0.0 (c.in-err-event.ensures c.args.metadata.now c.args.body.now))
+    rw (p.1, p.2) (turn_err (λ bs. facts_of (g.R.Reading.meaning c.args.reading.now bs)) c.args.self.now c.opened.new.self c.args.metadata.now c.args.body.now c.args.metadata.now c.args.body.now c.args.rest.now c.fill_opening-used.result.1 _ (opening_acted g (goal.at.returns-in_err-event g c).After-opened) c.in_err-event.field-0.0 (c.in_err-event.ensures c.args.metadata.now c.args.body.now))
 
-pub returns-in-err-event-2 : goal.returns-in-err-event-2
-returns-in-err-event-2 g c =
-    let p = err_from_is_err_and c.from-residual-in-err-event-2.result c.from-residual-in-err-event-2.ensures.1 in
-    rw (p.1, p.2) (turn_err (λ bs. facts_of (g.R.Reading.meaning c.args.reading.now bs)) c.args.self.now c.gathered.new.self c.args.metadata.now c.args.body.now c.fill-used.new.hold c.args.body.now c.args.rest.now c.fill-used.result _ (metadata_acted g (goal.at.returns-in-err-event-2 g c).After-gathered) c.in-err-event-2.field-0.0 (c.in-err-event-2.ensures c.args.body.now c.requires.1))
+pub returns-in_err-event-2 : goal.returns-in_err-event-2
+returns-in_err-event-2 g c =
+    let p = err_from_is_err_and c.from-residual-in_err-event-2.result c.from-residual-in_err-event-2.ensures.1 in
+    rw (p.1, p.2) (turn_err (λ bs. facts_of (g.R.Reading.meaning c.args.reading.now bs)) c.args.self.now c.gathered.new.self c.args.metadata.now c.args.body.now c.fill-used.new.hold c.args.body.now c.args.rest.now c.fill-used.result _ (metadata_acted g (goal.at.returns-in_err-event-2 g c).After-gathered) c.in_err-event-2.field-0.0 (c.in_err-event-2.ensures c.args.body.now c.requires.1))
 
-pub returns-in-ok-event : goal.returns-in-ok-event
-returns-in-ok-event g c =
-    turn_ok (λ bs. facts_of (g.R.Reading.meaning c.args.reading.now bs)) c.args.self.now c.opened.new.self c.args.metadata.now c.args.body.now c.args.metadata.now c.args.body.now c.args.rest.now c.fill-opening-used.result.1 _ (opening_acted g (goal.at.returns-in-ok-event g c).After-opened) c.in-ok-event.event (c.in-ok-event.ensures c.args.metadata.now c.args.body.now)
+pub returns-in_ok-event : goal.returns-in_ok-event
+returns-in_ok-event g c =
+    turn_ok (λ bs. facts_of (g.R.Reading.meaning c.args.reading.now bs)) c.args.self.now c.opened.new.self c.args.metadata.now c.args.body.now c.args.metadata.now c.args.body.now c.args.rest.now c.fill_opening-used.result.1 _ (opening_acted g (goal.at.returns-in_ok-event g c).After-opened) c.in_ok-event.event (c.in_ok-event.ensures c.args.metadata.now c.args.body.now)
 
-pub returns-in-ok-event-2 : goal.returns-in-ok-event-2
-returns-in-ok-event-2 g c =
-    turn_ok (λ bs. facts_of (g.R.Reading.meaning c.args.reading.now bs)) c.args.self.now c.gathered.new.self c.args.metadata.now c.args.body.now c.fill-used.new.hold c.args.body.now c.args.rest.now c.fill-used.result _ (metadata_acted g (goal.at.returns-in-ok-event-2 g c).After-gathered) c.in-ok-event-2.event (c.in-ok-event-2.ensures c.args.body.now c.requires.1)
+pub returns-in_ok-event-2 : goal.returns-in_ok-event-2
+returns-in_ok-event-2 g c =
+    turn_ok (λ bs. facts_of (g.R.Reading.meaning c.args.reading.now bs)) c.args.self.now c.gathered.new.self c.args.metadata.now c.args.body.now c.fill-used.new.hold c.args.body.now c.args.rest.now c.fill-used.result _ (metadata_acted g (goal.at.returns-in_ok-event-2 g c).After-gathered) c.in_ok-event-2.event (c.in_ok-event-2.ensures c.args.body.now c.requires.1)
 
 pub returns-in-Body-default : goal.returns-in-Body-default
 returns-in-Body-default g c =
