@@ -6,7 +6,7 @@
 import glob
 import re
 
-WORDS = ["in-ok", "in-err", "in-default", "slice-bounds", "offset-bounds", "overflow-add", "overflow-sub", "overflow-mul", "overflow-cast", "overflow-shl", "overflow-shr", "overflow-neg", "overflow-step", "nonzero-div", "nonzero-rem", "invariant-of"]
+WORDS = ["from-residual", "in-ok", "in-err", "in-default", "slice-bounds", "offset-bounds", "overflow-add", "overflow-sub", "overflow-mul", "overflow-cast", "overflow-shl", "overflow-shr", "overflow-neg", "overflow-step", "nonzero-div", "nonzero-rem", "invariant-of"]
 
 
 def names(crate):

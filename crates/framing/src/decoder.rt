@@ -100,7 +100,7 @@ impl FrameDecoder {
         body: &mut [u8],
         piece: &[u8],
     ) -> Result<Step, Fault>
-        ensures { Advances (λ bs. facts_of (meaning reading.now bs)) self.old metadata.old body.old piece.now result self.new metadata.new body.new }
+        ensures { Advances (λ bs. facts_of (R.meaning reading.now bs)) self.old metadata.old body.old piece.now result self.new metadata.new body.new }
     {
         if metadata.len() != self.metadata || body.len() != self.body {
             return Err(Refusal::Lengths.bare());
@@ -228,7 +228,7 @@ impl FrameDecoder {
         requires own { length metadata.now ≡ self.old.metadata }
         requires size { size ≤ self.old.metadata }
         requires got { got ≤ size }
-        ensures { Gathered (λ bs. facts_of (meaning reading.now bs)) metadata.now marked size got self.old result self.new }
+        ensures { Gathered (λ bs. facts_of (R.meaning reading.now bs)) metadata.now marked size got self.old result self.new }
     {
         if got < size {
             self.state = DecoderState::Message { marked, size, got };
@@ -252,7 +252,7 @@ impl FrameDecoder {
         rest: &[u8],
     ) -> Result<Step, Fault>
         requires { Own self.old metadata.old body.old }
-        ensures { Turns (λ bs. facts_of (meaning reading.now bs)) self.old metadata.old body.old rest.now result self.new metadata.new body.new }
+        ensures { Turns (λ bs. facts_of (R.meaning reading.now bs)) self.old metadata.old body.old rest.now result self.new metadata.new body.new }
     {
         match (self.state, rest) {
             (DecoderState::Header { bytes, got }, [_, ..]) => {

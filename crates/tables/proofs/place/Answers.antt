@@ -5,7 +5,7 @@ use Rattle.tables.proofs.place.Goals as goal
 pub returns-in_err-to : goal.returns-in_err-to
 returns-in_err-to c =
     let h : length c.args.bytes.now < 2 ^ 64 = search rules in
-    c.from-residual.ensures ∙ sym (place_out c.args.bytes.now (c.args.at + c.args.by) (over _ _ h c.in_err-to.ensures))
+    c.from_residual.ensures ∙ sym (place_out c.args.bytes.now (c.args.at + c.args.by) (over _ _ h c.in_err-to.ensures))
 
 pub returns-then-to-bytes : goal.returns-then-to-bytes
 returns-then-to-bytes c =

@@ -4,15 +4,15 @@ use Rattle.tables.proofs.Places.{vector_none, vector_behind, vector_long, vector
 use Rattle.tables.proofs.vector.Goals as goal
 
 pub returns-in_err-count : goal.returns-in_err-count
-returns-in_err-count c = ap (option_map (λ p. p.now)) c.from-residual.ensures ∙ vector_none c.args.width c.args.bytes.now c.args.at c.in_err-count.ensures
+returns-in_err-count c = ap (option_map (λ p. p.now)) c.from_residual.ensures ∙ vector_none c.args.width c.args.bytes.now c.args.at c.in_err-count.ensures
 
 pub returns-in_err-start : goal.returns-in_err-start
 returns-in_err-start c =
-    ap (option_map (λ p. p.now)) c.from-residual-in_err-start.ensures ∙ vector_behind c.args.width c.args.bytes.now c.args.at c.in_ok-count.count c.in_ok-count.ensures c.in_err-start.ensures
+    ap (option_map (λ p. p.now)) c.from_residual-in_err-start.ensures ∙ vector_behind c.args.width c.args.bytes.now c.args.at c.in_ok-count.count c.in_ok-count.ensures c.in_err-start.ensures
 
 pub returns-in_err-end : goal.returns-in_err-end
 returns-in_err-end c =
-    ap (option_map (λ p. p.now)) c.from-residual-in_err-end.ensures ∙ vector_long c.args.width c.args.bytes.now c.args.at c.in_ok-count.count c.in_ok-start.start c.in_ok-count.ensures c.in_ok-start.ensures c.in_err-end.ensures
+    ap (option_map (λ p. p.now)) c.from_residual-in_err-end.ensures ∙ vector_long c.args.width c.args.bytes.now c.args.at c.in_ok-count.count c.in_ok-start.start c.in_ok-count.ensures c.in_ok-start.ensures c.in_err-end.ensures
 
 pub returns : goal.returns
 returns c =

@@ -6,12 +6,12 @@ use Rattle.fields.proofs.walks.+read_children_read_field_read_indexed_read_plain
 
 pub read_children-returns-in_err-at : goal.read_children-returns-in_err-at
 read_children-returns-in_err-at t c =
-    rw c.from-residual.ensures
+    rw c.from_residual.ensures
     (no_item (walk_at c.args.depth c.args.bytes.now) c.args.bytes.now c.args.tags c.args.children.at c.args.children.count c.loop-k.k (held c.args.rows.now) (held c.loop-k.rows) (held c.loop-k.rows) c.loop-k.invariant (omega arith) c.in_err-at.ensures)
 
 pub read_children-returns-in_err-read_field : goal.read_children-returns-in_err-read_field
 read_children-returns-in_err-read_field t c =
-    rw c.from-residual-in_err-read_field.ensures
+    rw c.from_residual-in_err-read_field.ensures
     (field_over (walk_at c.args.depth c.args.bytes.now) c.args.bytes.now c.args.tags c.args.children.at c.args.children.count c.loop-k.k c.in_ok-at.at c.tag_of.result (held c.args.rows.now) (held c.loop-k.rows) (held c.read_field.new.rows) c.loop-k.invariant (omega arith) c.in_ok-at.ensures c.tag_of.ensures c.in_err-read_field.ensures)
 
 pub read_children-loop-k-preserved : goal.read_children-loop-k-preserved
@@ -28,7 +28,7 @@ read_field-returns-then-depth-eq0 t c =
 
 pub read_field-returns-in_err-field : goal.read_field-returns-in_err-field
 read_field-returns-in_err-field t c =
-    rw c.from-residual.ensures
+    rw c.from_residual.ensures
     (refused _ (held c.args.rows.now) (held c.args.rows.now) (walk_no_field c.args.bytes.now (length (held c.args.rows.now)) c.args.at c.args.tag c.args.depth c.in_err-field.ensures))
 
 pub read_field-returns-then-depth-eq1 : goal.read_field-returns-then-depth-eq1
@@ -45,12 +45,12 @@ read_field-returns-else-depth-eq1 t c =
 
 pub read_indexed-returns-in_err-push-2 : goal.read_indexed-returns-in_err-push-2
 read_indexed-returns-in_err-push-2 t c =
-    rw c.from-residual-in_err-push-2.ensures
+    rw c.from_residual-in_err-push-2.ensures
     (indexed_full (kids_of (walk_at c.args.depth c.args.bytes.now) c.args.bytes.now c.args.field) c.args.tag c.args.index c.args.field.shape.row (held c.args.rows.now) (held c.push.new.self) _ c.in_ok-push.ensures c.in_err-push-2.ensures (held c.push-2.new.self))
 
 pub read_indexed-returns-in_err-read_children : goal.read_indexed-returns-in_err-read_children
 read_indexed-returns-in_err-read_children t c =
-    rw c.from-residual-in_err-read_children.ensures
+    rw c.from_residual-in_err-read_children.ensures
     (indexed_over (kids_of (walk_at c.args.depth c.args.bytes.now) c.args.bytes.now c.args.field) c.args.tag c.args.index c.args.field.shape.row (held c.args.rows.now) (held c.push.new.self) (held c.push-2.new.self) _ _ c.in_ok-push.ensures c.in_ok-push-2.ensures (held c.read_children.new.rows) c.in_err-read_children.ensures)
 
 pub read_indexed-put-requires : goal.read_indexed-put-requires
@@ -71,7 +71,7 @@ read_indexed-returns t c =
 
 pub read_plain-returns-in_err-read_children : goal.read_plain-returns-in_err-read_children
 read_plain-returns-in_err-read_children t c =
-    rw c.from-residual-in_err-read_children.ensures
+    rw c.from_residual-in_err-read_children.ensures
     (plain_over (kids_of (walk_at c.args.depth c.args.bytes.now) c.args.bytes.now c.args.field) c.args.tag c.args.field.shape.row (held c.args.rows.now) (held c.push.new.self) _ c.in_ok-push.ensures (held c.read_children.new.rows) c.in_err-read_children.ensures)
 
 pub read_plain-put-requires : goal.read_plain-put-requires

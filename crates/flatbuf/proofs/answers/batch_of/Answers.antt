@@ -9,16 +9,16 @@ use Rattle.flatbuf.proofs.answers.batch_of.Goals as goal
 
 pub returns-in_err-head : goal.returns-in_err-head
 returns-in_err-head c = record {
-  nodes = ap (λ r. nodes_in (part_by (λ p. p.nodes) (option_map parts_in r))) c.from-residual.ensures ∙ nodes_in_none ∙ ap nodes_of (sym (headless c.args.bytes.now c.in_err-head.ensures));
-  buffers = ap (λ r. buffers_in (part_by (λ p. p.buffers) (option_map parts_in r))) c.from-residual.ensures ∙ buffers_in_none ∙ ap buffers_of (sym (headless c.args.bytes.now c.in_err-head.ensures));
-  counts = ap (λ r. counts_in (part_by (λ p. p.counts) (option_map parts_in r))) c.from-residual.ensures ∙ counts_in_none ∙ ap counts_of (sym (headless c.args.bytes.now c.in_err-head.ensures));
+  nodes = ap (λ r. nodes_in (part_by (λ p. p.nodes) (option_map parts_in r))) c.from_residual.ensures ∙ nodes_in_none ∙ ap nodes_of (sym (headless c.args.bytes.now c.in_err-head.ensures));
+  buffers = ap (λ r. buffers_in (part_by (λ p. p.buffers) (option_map parts_in r))) c.from_residual.ensures ∙ buffers_in_none ∙ ap buffers_of (sym (headless c.args.bytes.now c.in_err-head.ensures));
+  counts = ap (λ r. counts_in (part_by (λ p. p.counts) (option_map parts_in r))) c.from_residual.ensures ∙ counts_in_none ∙ ap counts_of (sym (headless c.args.bytes.now c.in_err-head.ensures));
 }
 
 pub returns-in_err-batch : goal.returns-in_err-batch
 returns-in_err-batch c = record {
-  nodes = ap (λ r. nodes_in (part_by (λ p. p.nodes) (option_map parts_in r))) c.from-residual-in_err-batch.ensures ∙ dictionary_list c.args.bytes.now c.in_ok-head.head nodes_in nodes_in_none (λ p. p.nodes) (λ l. l.nodes) (λ p. refl) c.in_ok-head.ensures c.in-2.is None c.in_err-batch.ensures;
-  buffers = ap (λ r. buffers_in (part_by (λ p. p.buffers) (option_map parts_in r))) c.from-residual-in_err-batch.ensures ∙ dictionary_list c.args.bytes.now c.in_ok-head.head buffers_in buffers_in_none (λ p. p.buffers) (λ l. l.buffers) (λ p. refl) c.in_ok-head.ensures c.in-2.is None c.in_err-batch.ensures;
-  counts = ap (λ r. counts_in (part_by (λ p. p.counts) (option_map parts_in r))) c.from-residual-in_err-batch.ensures ∙ dictionary_list c.args.bytes.now c.in_ok-head.head counts_in counts_in_none (λ p. p.counts) (λ l. l.counts) (λ p. refl) c.in_ok-head.ensures c.in-2.is None c.in_err-batch.ensures;
+  nodes = ap (λ r. nodes_in (part_by (λ p. p.nodes) (option_map parts_in r))) c.from_residual-in_err-batch.ensures ∙ dictionary_list c.args.bytes.now c.in_ok-head.head nodes_in nodes_in_none (λ p. p.nodes) (λ l. l.nodes) (λ p. refl) c.in_ok-head.ensures c.in-2.is None c.in_err-batch.ensures;
+  buffers = ap (λ r. buffers_in (part_by (λ p. p.buffers) (option_map parts_in r))) c.from_residual-in_err-batch.ensures ∙ dictionary_list c.args.bytes.now c.in_ok-head.head buffers_in buffers_in_none (λ p. p.buffers) (λ l. l.buffers) (λ p. refl) c.in_ok-head.ensures c.in-2.is None c.in_err-batch.ensures;
+  counts = ap (λ r. counts_in (part_by (λ p. p.counts) (option_map parts_in r))) c.from_residual-in_err-batch.ensures ∙ dictionary_list c.args.bytes.now c.in_ok-head.head counts_in counts_in_none (λ p. p.counts) (λ l. l.counts) (λ p. refl) c.in_ok-head.ensures c.in-2.is None c.in_err-batch.ensures;
 }
 
 pub returns-in_ok-batch : goal.returns-in_ok-batch

@@ -5,11 +5,11 @@ use Rattle.flatbuf.proofs.Told.{facts_by, headless}
 use Rattle.flatbuf.proofs.answers.facts_of.Goals as goal
 
 pub returns-in_err-head : goal.returns-in_err-head
-returns-in_err-head c = c.from-residual.ensures ∙ ap told_by (sym (headless c.args.bytes.now c.in_err-head.ensures))
+returns-in_err-head c = c.from_residual.ensures ∙ ap told_by (sym (headless c.args.bytes.now c.in_err-head.ensures))
 
 pub returns-in_err-header : goal.returns-in_err-header
 returns-in_err-header c =
-    c.from-residual-in_err-header.ensures ∙ facts_by c.args.bytes.now c.in_ok-head.head c.in_ok-head.ensures None c.in_err-header.ensures
+    c.from_residual-in_err-header.ensures ∙ facts_by c.args.bytes.now c.in_ok-head.head c.in_ok-head.ensures None c.in_err-header.ensures
 
 pub returns : goal.returns
 returns c =

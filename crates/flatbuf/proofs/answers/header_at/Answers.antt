@@ -6,13 +6,13 @@ use Rattle.flatbuf.proofs.Told.{empty_header, no_schema_header, schema_header, n
 use Rattle.flatbuf.proofs.answers.header_at.Goals as goal
 
 pub returns-in_err-rows : goal.returns-in_err-rows
-returns-in_err-rows c = c.from-residual.ensures ∙ no_schema_header c.args.bytes.now c.args.head c.in-1.is c.in_err-rows.ensures
+returns-in_err-rows c = c.from_residual.ensures ∙ no_schema_header c.args.bytes.now c.args.head c.in-1.is c.in_err-rows.ensures
 
 pub returns-in_err-batch : goal.returns-in_err-batch
-returns-in_err-batch c = c.from-residual-in_err-batch.ensures ∙ no_dictionary_header c.args.bytes.now c.args.head c.in-2.is c.in_err-batch.ensures
+returns-in_err-batch c = c.from_residual-in_err-batch.ensures ∙ no_dictionary_header c.args.bytes.now c.args.head c.in-2.is c.in_err-batch.ensures
 
 pub returns-in_err-batch-2 : goal.returns-in_err-batch-2
-returns-in_err-batch-2 c = c.from-residual-in_err-batch-2.ensures ∙ no_batch_header c.args.bytes.now c.args.head c.in-3.is c.in_err-batch-2.ensures
+returns-in_err-batch-2 c = c.from_residual-in_err-batch-2.ensures ∙ no_batch_header c.args.bytes.now c.args.head c.in-3.is c.in_err-batch-2.ensures
 
 pub returns-in-0 : goal.returns-in-0
 returns-in-0 c = empty_header c.args.bytes.now c.args.head c.in-0.is

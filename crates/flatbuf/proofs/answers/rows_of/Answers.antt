@@ -7,7 +7,7 @@ use Rattle.flatbuf.proofs.Told.{headless, rows_at, rows_else}
 use Rattle.flatbuf.proofs.answers.rows_of.Goals as goal
 
 pub returns-in_err-head : goal.returns-in_err-head
-returns-in_err-head c = ap (λ o. or_none (option_map held o)) c.from-residual.ensures ∙ ap rows_of (sym (headless c.args.bytes.now c.in_err-head.ensures))
+returns-in_err-head c = ap (λ o. or_none (option_map held o)) c.from_residual.ensures ∙ ap rows_of (sym (headless c.args.bytes.now c.in_err-head.ensures))
 
 pub returns-in-1 : goal.returns-in-1
 returns-in-1 c = rows_at c.args.bytes.now c.in_ok-head.head c.in_ok-head.ensures c.in-1.is (option_map held c.schema_at.result) c.schema_at.ensures

@@ -6,7 +6,7 @@ use Rattle.framing.proofs.state.FrameDecoder.advance.Goals as goal
 
 pub returns-in_err-turn : goal.returns-in_err-turn
 returns-in_err-turn g c =
-    let p = err_from_is_err_and c.from-residual.result c.from-residual.ensures.1 in
+    let p = err_from_is_err_and c.from_residual.result c.from_residual.ensures.1 in
     rw (p.1, p.2)
     (refuses (λ bs. facts_of (g.R.Reading.meaning c.args.reading.now bs)) c.args.self.now c.args.metadata.now c.args.body.now c.args.piece.now c.loop-turn.used (c.if-metadata-self.false, c.if-body-self.false) c.loop-turn.self c.loop-turn.metadata c.loop-turn.body c.loop-turn.invariant c.turn.new.self c.turn.new.metadata c.turn.new.body (c.turn.auto.metadata ∙ c.loop-turn.auto.metadata) (c.turn.auto.body ∙ c.loop-turn.auto.body) c.in_err-turn.field-0.0 c.in_err-turn.ensures)
 

@@ -39,12 +39,12 @@ metadata_acted g c =
 
 pub returns-in_err-event : goal.returns-in_err-event
 returns-in_err-event g c =
-    let p = err_from_is_err_and c.from-residual.result c.from-residual.ensures.1 in
+    let p = err_from_is_err_and c.from_residual.result c.from_residual.ensures.1 in
     rw (p.1, p.2) (turn_err (λ bs. facts_of (g.R.Reading.meaning c.args.reading.now bs)) c.args.self.now c.opened.new.self c.args.metadata.now c.args.body.now c.args.metadata.now c.args.body.now c.args.rest.now c.fill_opening-used.result.1 _ (opening_acted g (goal.at.returns-in_err-event g c).After-opened) c.in_err-event.field-0.0 (c.in_err-event.ensures c.args.metadata.now c.args.body.now))
 
 pub returns-in_err-event-2 : goal.returns-in_err-event-2
 returns-in_err-event-2 g c =
-    let p = err_from_is_err_and c.from-residual-in_err-event-2.result c.from-residual-in_err-event-2.ensures.1 in
+    let p = err_from_is_err_and c.from_residual-in_err-event-2.result c.from_residual-in_err-event-2.ensures.1 in
     rw (p.1, p.2) (turn_err (λ bs. facts_of (g.R.Reading.meaning c.args.reading.now bs)) c.args.self.now c.gathered.new.self c.args.metadata.now c.args.body.now c.fill-used.new.hold c.args.body.now c.args.rest.now c.fill-used.result _ (metadata_acted g (goal.at.returns-in_err-event-2 g c).After-gathered) c.in_err-event-2.field-0.0 (c.in_err-event-2.ensures c.args.body.now c.requires.1))
 
 pub returns-in_ok-event : goal.returns-in_ok-event
