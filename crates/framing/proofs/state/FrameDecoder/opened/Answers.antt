@@ -5,9 +5,9 @@ use Rattle.framing.specs.Views.{holds_of}
 use Rattle.framing.proofs.Fills.{Opening, opening_bounds}
 use Rattle.framing.proofs.MovesOf.{not_whole, whole, opening_more, opening_sized}
 use Rattle.framing.proofs.state.FrameDecoder.opened.Goals as goal
-use Rattle.framing.proofs.state.FrameDecoder.opened.Goals.{In-default}
+use Rattle.framing.proofs.state.FrameDecoder.opened.Goals.{In_default}
 
-more : (c : In-default) → Opening (take c.args.got c.args.bytes)
+more : (c : In_default) → Opening (take c.args.got c.args.bytes)
 more c = not_whole (take c.args.got c.args.bytes) c.opening_in-marked.result.0 c.opening_in-marked.result.1 c.opening_in-marked.ensures c.in_default.is
 
 pub invariant_of-self : goal.invariant_of-self
@@ -21,7 +21,7 @@ invariant_of-self c =
 
 pub returns-in_default : goal.returns-in_default
 returns-in_default c =
-    opening_more c.args.self.now _ c.args.bytes (take c.args.got c.args.bytes) c.args.got refl (more (goal.at.returns-in_default c).In-default) (record { metadata = refl; body = refl }) refl refl
+    opening_more c.args.self.now _ c.args.bytes (take c.args.got c.args.bytes) c.args.got refl (more (goal.at.returns-in_default c).In_default) (record { metadata = refl; body = refl }) refl refl
 
 pub returns : goal.returns
 returns c =
