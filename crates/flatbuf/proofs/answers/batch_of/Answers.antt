@@ -14,18 +14,18 @@ returns-in_err-head c = record {
   counts = ap (λ r. counts_in (part_by (λ p. p.counts) (option_map parts_in r))) c.from_residual.ensures ∙ counts_in_none ∙ ap counts_of (sym (headless c.args.bytes.now c.in_err-head.ensures));
 }
 
-pub returns-in_err-batch : goal.returns-in_err-batch
-returns-in_err-batch c = record {
-  nodes = ap (λ r. nodes_in (part_by (λ p. p.nodes) (option_map parts_in r))) c.from_residual-in_err-batch.ensures ∙ dictionary_list c.args.bytes.now c.in_ok-head.head nodes_in nodes_in_none (λ p. p.nodes) (λ l. l.nodes) (λ p. refl) c.in_ok-head.ensures c.in-2.is None c.in_err-batch.ensures;
-  buffers = ap (λ r. buffers_in (part_by (λ p. p.buffers) (option_map parts_in r))) c.from_residual-in_err-batch.ensures ∙ dictionary_list c.args.bytes.now c.in_ok-head.head buffers_in buffers_in_none (λ p. p.buffers) (λ l. l.buffers) (λ p. refl) c.in_ok-head.ensures c.in-2.is None c.in_err-batch.ensures;
-  counts = ap (λ r. counts_in (part_by (λ p. p.counts) (option_map parts_in r))) c.from_residual-in_err-batch.ensures ∙ dictionary_list c.args.bytes.now c.in_ok-head.head counts_in counts_in_none (λ p. p.counts) (λ l. l.counts) (λ p. refl) c.in_ok-head.ensures c.in-2.is None c.in_err-batch.ensures;
+pub returns-in_err-batch-in-2 : goal.returns-in_err-batch-in-2
+returns-in_err-batch-in-2 c = record {
+  nodes = ap (λ r. nodes_in (part_by (λ p. p.nodes) (option_map parts_in r))) c.from_residual-in_err-batch-in-2.ensures ∙ dictionary_list c.args.bytes.now c.in_ok-head.head nodes_in nodes_in_none (λ p. p.nodes) (λ l. l.nodes) (λ p. refl) c.in_ok-head.ensures c.in-2.is None c.in_err-batch-in-2.ensures;
+  buffers = ap (λ r. buffers_in (part_by (λ p. p.buffers) (option_map parts_in r))) c.from_residual-in_err-batch-in-2.ensures ∙ dictionary_list c.args.bytes.now c.in_ok-head.head buffers_in buffers_in_none (λ p. p.buffers) (λ l. l.buffers) (λ p. refl) c.in_ok-head.ensures c.in-2.is None c.in_err-batch-in-2.ensures;
+  counts = ap (λ r. counts_in (part_by (λ p. p.counts) (option_map parts_in r))) c.from_residual-in_err-batch-in-2.ensures ∙ dictionary_list c.args.bytes.now c.in_ok-head.head counts_in counts_in_none (λ p. p.counts) (λ l. l.counts) (λ p. refl) c.in_ok-head.ensures c.in-2.is None c.in_err-batch-in-2.ensures;
 }
 
-pub returns-in_ok-batch : goal.returns-in_ok-batch
-returns-in_ok-batch c = record {
-  nodes = dictionary_list c.args.bytes.now c.in_ok-head.head nodes_in nodes_in_none (λ p. p.nodes) (λ l. l.nodes) (λ p. refl) c.in_ok-head.ensures c.in-2.is (Some (dictionary_in c.in_ok-batch.batch)) c.in_ok-batch.ensures;
-  buffers = dictionary_list c.args.bytes.now c.in_ok-head.head buffers_in buffers_in_none (λ p. p.buffers) (λ l. l.buffers) (λ p. refl) c.in_ok-head.ensures c.in-2.is (Some (dictionary_in c.in_ok-batch.batch)) c.in_ok-batch.ensures;
-  counts = dictionary_list c.args.bytes.now c.in_ok-head.head counts_in counts_in_none (λ p. p.counts) (λ l. l.counts) (λ p. refl) c.in_ok-head.ensures c.in-2.is (Some (dictionary_in c.in_ok-batch.batch)) c.in_ok-batch.ensures;
+pub returns-in_ok-batch-in-2 : goal.returns-in_ok-batch-in-2
+returns-in_ok-batch-in-2 c = record {
+  nodes = dictionary_list c.args.bytes.now c.in_ok-head.head nodes_in nodes_in_none (λ p. p.nodes) (λ l. l.nodes) (λ p. refl) c.in_ok-head.ensures c.in-2.is (Some (dictionary_in c.in_ok-batch-in-2.batch)) c.in_ok-batch-in-2.ensures;
+  buffers = dictionary_list c.args.bytes.now c.in_ok-head.head buffers_in buffers_in_none (λ p. p.buffers) (λ l. l.buffers) (λ p. refl) c.in_ok-head.ensures c.in-2.is (Some (dictionary_in c.in_ok-batch-in-2.batch)) c.in_ok-batch-in-2.ensures;
+  counts = dictionary_list c.args.bytes.now c.in_ok-head.head counts_in counts_in_none (λ p. p.counts) (λ l. l.counts) (λ p. refl) c.in_ok-head.ensures c.in-2.is (Some (dictionary_in c.in_ok-batch-in-2.batch)) c.in_ok-batch-in-2.ensures;
 }
 
 pub returns-in-3 : goal.returns-in-3

@@ -17,7 +17,7 @@ invariant_of-self c =
     let l : length (take c.args.got c.args.bytes) ≡ c.args.got = length-take-le c.args.got c.args.bytes (omega (arith, c.requires)) in
     let b = opening_bounds (marks (take c.args.got c.args.bytes)) in
     let m : c.args.got < 8 = omega (arith, (more c).more, b.1) in
-    (d.few, (d.limited, (omega arith, (omega arith, (omega arith, (omega arith, (omega arith, (omega arith, tt))))))))
+    record { few = d.few; limited = d.limited; opening = omega arith; bytes = omega arith; size = omega arith; part = omega arith; length = omega arith; rest = omega arith }
 
 pub returns-in_default : goal.returns-in_default
 returns-in_default c =

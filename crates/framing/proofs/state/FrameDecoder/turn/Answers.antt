@@ -40,20 +40,20 @@ metadata_acted g c =
 pub returns-in_err-event-in-Header-len1-up : goal.returns-in_err-event-in-Header-len1-up
 returns-in_err-event-in-Header-len1-up g c =
     let p = err_from_is_err_and c.from_residual.result c.from_residual.ensures.1 in
-    rw (p.1, p.2) (turn_err (λ bs. facts_of (g.R.Reading.meaning c.args.reading.now bs)) c.args.self.now c.opened.new.self c.args.metadata.now c.args.body.now c.args.metadata.now c.args.body.now c.args.rest.now c.fill_opening-used.result.1 _ (opening_acted g (goal.at.returns-in_err-event-in-Header-len1-up g c).After-opened) c.in_err-event.field-0.0 (c.in_err-event.ensures c.args.metadata.now c.args.body.now))
+    rw (p.1, p.2) (turn_err (λ bs. facts_of (g.R.Reading.meaning c.args.reading.now bs)) c.args.self.now c.opened.new.self c.args.metadata.now c.args.body.now c.args.metadata.now c.args.body.now c.args.rest.now c.fill_opening-used.result.1 _ (opening_acted g (goal.at.returns-in_err-event-in-Header-len1-up g c).After-opened) c.in_err-event-in-Header-len1-up.field-0.0 (c.in_err-event-in-Header-len1-up.ensures c.args.metadata.now c.args.body.now))
 
 pub returns-in_err-event-in-Message-default : goal.returns-in_err-event-in-Message-default
 returns-in_err-event-in-Message-default g c =
-    let p = err_from_is_err_and c.from_residual-in_err-event-2.result c.from_residual-in_err-event-2.ensures.1 in
-    rw (p.1, p.2) (turn_err (λ bs. facts_of (g.R.Reading.meaning c.args.reading.now bs)) c.args.self.now c.gathered.new.self c.args.metadata.now c.args.body.now c.fill-used.new.hold c.args.body.now c.args.rest.now c.fill-used.result _ (metadata_acted g (goal.at.returns-in_err-event-in-Message-default g c).After-gathered) c.in_err-event-2.field-0.0 (c.in_err-event-2.ensures c.args.body.now c.requires.1))
+    let p = err_from_is_err_and c.from_residual-in_err-event-in-Message-default.result c.from_residual-in_err-event-in-Message-default.ensures.1 in
+    rw (p.1, p.2) (turn_err (λ bs. facts_of (g.R.Reading.meaning c.args.reading.now bs)) c.args.self.now c.gathered.new.self c.args.metadata.now c.args.body.now c.fill-used.new.hold c.args.body.now c.args.rest.now c.fill-used.result _ (metadata_acted g (goal.at.returns-in_err-event-in-Message-default g c).After-gathered) c.in_err-event-in-Message-default.field-0.0 (c.in_err-event-in-Message-default.ensures c.args.body.now c.requires.1))
 
 pub returns-in_ok-event-in-Header-len1-up : goal.returns-in_ok-event-in-Header-len1-up
 returns-in_ok-event-in-Header-len1-up g c =
-    turn_ok (λ bs. facts_of (g.R.Reading.meaning c.args.reading.now bs)) c.args.self.now c.opened.new.self c.args.metadata.now c.args.body.now c.args.metadata.now c.args.body.now c.args.rest.now c.fill_opening-used.result.1 _ (opening_acted g (goal.at.returns-in_ok-event-in-Header-len1-up g c).After-opened) c.in_ok-event.event (c.in_ok-event.ensures c.args.metadata.now c.args.body.now)
+    turn_ok (λ bs. facts_of (g.R.Reading.meaning c.args.reading.now bs)) c.args.self.now c.opened.new.self c.args.metadata.now c.args.body.now c.args.metadata.now c.args.body.now c.args.rest.now c.fill_opening-used.result.1 _ (opening_acted g (goal.at.returns-in_ok-event-in-Header-len1-up g c).After-opened) c.in_ok-event-in-Header-len1-up.event (c.in_ok-event-in-Header-len1-up.ensures c.args.metadata.now c.args.body.now)
 
 pub returns-in_ok-event-in-Message-default : goal.returns-in_ok-event-in-Message-default
 returns-in_ok-event-in-Message-default g c =
-    turn_ok (λ bs. facts_of (g.R.Reading.meaning c.args.reading.now bs)) c.args.self.now c.gathered.new.self c.args.metadata.now c.args.body.now c.fill-used.new.hold c.args.body.now c.args.rest.now c.fill-used.result _ (metadata_acted g (goal.at.returns-in_ok-event-in-Message-default g c).After-gathered) c.in_ok-event-2.event (c.in_ok-event-2.ensures c.args.body.now c.requires.1)
+    turn_ok (λ bs. facts_of (g.R.Reading.meaning c.args.reading.now bs)) c.args.self.now c.gathered.new.self c.args.metadata.now c.args.body.now c.fill-used.new.hold c.args.body.now c.args.rest.now c.fill-used.result _ (metadata_acted g (goal.at.returns-in_ok-event-in-Message-default g c).After-gathered) c.in_ok-event-in-Message-default.event (c.in_ok-event-in-Message-default.ensures c.args.body.now c.requires.1)
 
 pub returns-in-Body-default : goal.returns-in-Body-default
 returns-in-Body-default g c =
