@@ -12,10 +12,7 @@ use crate::inspect::inspect;
 use crate::options::{Command, HELP, parse};
 use std::env;
 use std::io::Write;
-
-// The program has said what is wrong: all that is left is its exit status.
-#[derive(Drop)]
-struct Failed;
+use std::process::ExitCode;
 
 fn run(rt: &HostRuntime) -> anyhow::Result<bool> {
     let mut words = Vec::new(rt.alloc());
@@ -31,13 +28,14 @@ fn run(rt: &HostRuntime) -> anyhow::Result<bool> {
     }
 }
 
-fn main(rt: HostRuntime) -> Result<(), Failed> {
+// What is wrong has been said where the status is no success.
+fn main(rt: HostRuntime) -> ExitCode {
     match run(&rt) {
-        Ok(true) => Ok(()),
-        Ok(false) => Err(Failed),
+        Ok(true) => ExitCode::SUCCESS,
+        Ok(false) => ExitCode::FAILURE,
         Err(e) => {
             let _ = eprintln!(rt; "fegzund: {e}");
-            Err(Failed)
+            ExitCode::FAILURE
         }
     }
 }
