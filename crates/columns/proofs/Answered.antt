@@ -1,5 +1,5 @@
 -- Every cell in range of columns that are not refused answers, and points in range.
-use Rattle.std.proofs.Common.{◌≡◌, ℕ, zero, suc, ◌+◌, ◌<◌, ◌≤◌, Bool, true, false, cond, ◌&&◌, ltb, List, [], ◌∷◌, ◌++◌, length, ℤ, is_some as option_is_some, Some, None, Ok, Err, Option, Result, sym, refl, ap, ◌∙◌, subst, inl, inr, arith, length-append}
+use Rattle.std.proofs.Common.{◌≡◌, ℕ, zero, suc, ◌+◌, ◌<◌, ◌≤◌, Bool, true, false, cond, ◌&&◌, List, [], ◌∷◌, length, ℤ, is_some as option_is_some, Some, None, Ok, Err, Option, Result, sym, refl, ap, ◌∙◌, subst, inl, inr, arith, length-append}
 use Rattle.std.proofs.lemmas.Bool.{and_parts, cases_eq, lt-ltb}
 use Rattle.message.specs.declared.faults.Refusal.{Refusal}
 use Rattle.message.specs.declared.faults.Refusal.TheVariants.{OutOfRange, Changed}
@@ -7,14 +7,14 @@ use Rattle.little.proofs.Maybe.{some_same, none_some}
 use Rattle.schemas.specs.Schemas.{Fields, none, field, size}
 use Rattle.schemas.specs.Takings.{Taken, takes_of, kind_of, after}
 use Rattle.columns.specs.declared.entries.Column.{Column}
-use Rattle.columns.specs.Entries.{indexed, unless_indexed, entry_of, entries, entry_count, pick, shown_entries, shown_count}
+use Rattle.columns.specs.Entries.{indexed, unless_indexed, entries, entry_count, pick, shown_entries, shown_count}
 use Rattle.columns.specs.Looks.{Sight, Look, length_at, look}
 use Rattle.columns.specs.Slots.{Cell, absent, slot, is_absent}
 use Rattle.columns.specs.Rules.{sound, whole_kept, nulls_kept, validity_reaches, reaches, children_kept, values_kept, first_broken, broken_at}
 use Rattle.columns.specs.Cells.{cell_by, cell_in, cell_below, cell_at, InRange, Points, Answers}
-use Rattle.columns.specs.Reads.{Broken, rule_at, rule_by, rule_fault}
+use Rattle.columns.specs.Reads.{rule_at, rule_by, rule_fault}
 use Rattle.columns.specs.Fits.{Keeps}
-use Rattle.columns.proofs.Looked.{Known, known}
+use Rattle.columns.proofs.Looked.{known}
 use Rattle.columns.proofs.Pointed.{fine}
 
 is_some : {A : Type 0} (o : Option A) → option_is_some o ≡ true → (x : A) × (o ≡ Some x)

@@ -1,12 +1,12 @@
 -- What stands behind the lists and the body of a batch does not count.
-use Rattle.std.proofs.Common.{◌≡◌, ℕ, zero, suc, ◌+◌, ◌-◌, ◌<◌, ◌≤◌, Bool, true, false, ◌&&◌, ltb, leb, List, [], ◌∷◌, ◌++◌, length, take, drop, ℤ, pos, negsuc, ◌+ℤ◌, Some, None, Ok, Err, Option, Result, sym, refl, ap, ◌∙◌, subst, inl, inr, arith, length-append, length-drop}
+use Rattle.std.proofs.Common.{◌≡◌, ℕ, zero, suc, ◌+◌, ◌<◌, ◌≤◌, Bool, true, false, ◌&&◌, ltb, leb, List, [], ◌∷◌, ◌++◌, length, take, drop, ℤ, pos, negsuc, ◌+ℤ◌, Some, None, Err, Option, Result, sym, refl, ap, ◌∙◌, inl, inr, arith, length-append, length-drop}
 use lib.Signed.{le_z}
 use lib.Seq.{take-append-le, drop-append-le}
-use Rattle.std.proofs.lemmas.Bool.{and_parts, leb-true, le-leb, lt-ltb, le-ltb, cases_lt}
+use Rattle.std.proofs.lemmas.Bool.{and_parts, leb-true, le-leb, le-ltb, cases_lt}
 use Rattle.std.specs.Option.{option_map}
 use Rattle.std.specs.List.{slice_get}
 use Rattle.little.specs.Maybe.{and_then}
-use Rattle.little.proofs.Maybe.{mapped_is, then_is, some_same, none_some}
+use Rattle.little.proofs.Maybe.{mapped_is, then_is, none_some}
 use Rattle.message.specs.declared.faults.Refusal.{Refusal}
 use Rattle.message.specs.declared.faults.Refusal.TheVariants.{OutOfRange}
 use Rattle.message.specs.declared.items.Buffer.{Buffer}

@@ -1,8 +1,8 @@
 -- Columns are read without a refusal exactly when they fit.
-use Rattle.std.proofs.Common.{◌≡◌, ℕ, zero, suc, ◌+◌, ◌<◌, ◌≤◌, Bool, true, false, not, ◌||◌, leb, List, length, get_or, ℤ, pos, is_some, Some, None, Option, sym, refl, ap, ◌∙◌, subst, inl, inr, add-zero, arith}
+use Rattle.std.proofs.Common.{◌≡◌, ℕ, zero, suc, ◌+◌, ◌<◌, ◌≤◌, Bool, true, false, not, ◌||◌, leb, length, get_or, ℤ, pos, is_some, Some, None, Option, sym, refl, ap, ◌∙◌, add-zero, arith}
 use Rattle.std.proofs.lemmas.Bool.{leb-true, le-leb}
 use Rattle.std.specs.List.{slice_get}
-use Rattle.little.proofs.Maybe.{some_same, none_some}
+use Rattle.little.proofs.Maybe.{none_some}
 use Rattle.message.specs.declared.faults.Refusal.TheVariants.{NodeRange, ViewCount, BufferRange}
 use Rattle.message.specs.declared.items.Buffer.{Buffer}
 use Rattle.message.specs.declared.items.Node.{Node}
@@ -11,11 +11,11 @@ use Rattle.schemas.specs.Schemas.{Fields, none, field, size}
 use Rattle.schemas.specs.Takings.{Taken, buffers_of, natural, takes_of, kind_of, after}
 use Rattle.schemas.specs.Queues.{is_view}
 use Rattle.columns.specs.Entries.{indexed, entry_count}
-use Rattle.columns.specs.Looks.{Sight, node_fits, inside, data_count, Look, look}
+use Rattle.columns.specs.Looks.{Sight, node_fits, inside, data_count}
 use Rattle.columns.specs.Slots.{slot}
-use Rattle.columns.specs.Rules.{whole_kept, first_broken, broken_at}
+use Rattle.columns.specs.Rules.{first_broken}
 use Rattle.columns.specs.Reads.{Broken, in_row, or_else, unless_kept, node_by, node_fault, buffer_by, buffers_fault, count_by, count_fault, own_buffers, takes_fault, row_fault, rule_at, rule_by, rule_fault, unless_fault, fields_fault}
-use Rattle.columns.specs.Fits.{Keeps, Takes, TakesBy, KeepsAt, UnlessIndexed, Fits, Exactly}
+use Rattle.columns.specs.Fits.{TakesBy, KeepsAt, UnlessIndexed, Fits, Exactly}
 use Rattle.columns.proofs.Visited.{neither}
 use Rattle.columns.proofs.Answered.{rule_held}
 

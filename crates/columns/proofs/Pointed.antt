@@ -1,17 +1,17 @@
 -- The cells to which a slot points are in range.
-use Rattle.std.proofs.Common.{◌≡◌, ℕ, zero, suc, ◌+◌, ◌-◌, ◌*◌, ◌<◌, ◌≤◌, Bool, true, false, ◌&&◌, eqb, ltb, leb, List, [], ◌∷◌, length, ℤ, pos, negsuc, ◌+ℤ◌, Some, None, Option, sym, refl, ap, ◌∙◌, subst, arith}
+use Rattle.std.proofs.Common.{◌≡◌, ℕ, zero, suc, ◌+◌, ◌-◌, ◌*◌, ◌<◌, ◌≤◌, Bool, true, false, ◌&&◌, eqb, ltb, leb, List, [], ◌∷◌, ℤ, pos, negsuc, ◌+ℤ◌, Some, None, Option, sym, refl, ap, ◌∙◌, subst, arith}
 use lib.Signed.{le_z}
 use Rattle.std.proofs.lemmas.Bool.{and_parts, leb-true, ltb-true, eqb-true}
 use Rattle.std.specs.List.{slice_get}
 use Rattle.little.proofs.Maybe.{mapped_is, then_is, some_same, none_some}
 use Rattle.message.specs.declared.rows.Row.{Row}
 use Rattle.dictionaries.specs.Values.{Value, same}
-use Rattle.dictionaries.specs.Places.{Held, Stored}
+use Rattle.dictionaries.specs.Places.{Held}
 use Rattle.schemas.specs.declared.kinds.Kind.{Kind}
 use Rattle.schemas.specs.declared.kinds.Kind.TheVariants.{Null, Bool as BoolKind, Fixed, Binary, LargeBinary, View, List as ListKind, LargeList, ListView, LargeListView, FixedSizeList, Struct, Dictionary, SparseUnion, DenseUnion}
 use Rattle.schemas.specs.Takings.{natural}
 use Rattle.columns.specs.Looks.{Sight, Part, Child, Look, length_at}
-use Rattle.columns.specs.Slots.{Cell, absent, bit, part, stored, span, group, link, buffer, signed_at, Range, range_by, by_offsets, by_sizes, bytes_by, view_at, text_kept, text_by, span_by, first_entry, tagged, link_at, link_by, value_cell, index_at, held_at, is_absent, value_by, slot_of}
+use Rattle.columns.specs.Slots.{Cell, absent, part, span, group, link, buffer, signed_at, Range, range_by, by_offsets, by_sizes, view_at, text_kept, text_by, span_by, first_entry, tagged, link_at, link_by, value_cell, index_at, held_at, is_absent, value_by, slot_of}
 use Rattle.columns.specs.Rules.{all_long, children_kept}
 use Rattle.columns.specs.Cells.{InRange, Points}
 use Rattle.columns.proofs.Looked.{Sized}

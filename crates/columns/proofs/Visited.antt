@@ -1,7 +1,6 @@
 -- Where nothing is refused, the rules of every entry were looked at, and hold.
-use Rattle.std.proofs.Common.{◌≡◌, ℕ, ◌+◌, ◌<◌, ◌≤◌, Bool, true, false, cond, List, ℤ, Some, None, Option, sym, refl, ap, ◌∙◌, inl, inr, arith}
+use Rattle.std.proofs.Common.{◌≡◌, ℕ, ◌+◌, ◌<◌, ◌≤◌, Bool, true, false, cond, ℤ, Some, None, Option, refl, ap, ◌∙◌, inl, inr, arith}
 use Rattle.std.proofs.lemmas.Bool.{cases_lt, cases_eq}
-use Rattle.message.specs.declared.rows.Row.{Row}
 use Rattle.schemas.specs.Schemas.{Fields, none, field, size}
 use Rattle.schemas.specs.Takings.{Taken, takes_of, kind_of, after}
 use Rattle.columns.specs.Entries.{indexed, entry_count, shown_count}

@@ -1,5 +1,5 @@
 -- The same batch seen through longer memories: what stands behind its lists and its body does not count.
-use Rattle.std.specs.Prelude.{◌≡◌, ℕ, List, ◌++◌, ℤ}
+use Rattle.std.specs.Prelude.{ℕ, List, ◌++◌, ℤ}
 use Rattle.message.specs.declared.items.Buffer.{Buffer}
 use Rattle.message.specs.declared.items.Node.{Node}
 use Rattle.columns.specs.Looks.{Sight}

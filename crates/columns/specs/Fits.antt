@@ -1,6 +1,6 @@
 -- Which columns are read without a refusal, in no order: each row, by its place, has what it takes, and each entry keeps
 -- its rules.
-use Rattle.std.specs.Prelude.{◌≡◌, ℕ, ◌+◌, ◌<◌, ◌≤◌, Bool, true, false, List, length, ℤ, pos, is_some, Some, None, Option, slice_index_or}
+use Rattle.std.specs.Prelude.{◌≡◌, ℕ, ◌+◌, ◌<◌, ◌≤◌, Bool, true, false, length, ℤ, pos, is_some, Some, None, Option, slice_index_or}
 use Rattle.std.specs.List.{slice_get}
 use Rattle.message.specs.declared.items.Buffer.{Buffer}
 use Rattle.message.specs.declared.items.Node.{Node}

@@ -1,7 +1,6 @@
 -- Reading the columns of a message: the first refusal, in reading order.
-use Rattle.std.specs.Prelude.{◌≡◌, ℕ, zero, suc, ◌+◌, Bool, true, false, cond, not, ◌&&◌, ◌||◌, List, [], ◌∷◌, length, ℤ, pos, Some, None, Option, nat_le, slice_index_or}
+use Rattle.std.specs.Prelude.{ℕ, zero, suc, ◌+◌, Bool, true, false, cond, not, ◌||◌, List, length, ℤ, pos, Some, None, Option, nat_le, slice_index_or}
 use Rattle.std.specs.List.{slice_get}
-use Rattle.little.specs.Maybe.{and_then}
 use Rattle.message.specs.declared.faults.Fault.{Fault}
 use Rattle.message.specs.declared.faults.Place.{Place}
 use Rattle.message.specs.declared.faults.Refusal.{Refusal}

@@ -1,6 +1,5 @@
 -- The rules that a whole column keeps.
 use Rattle.std.specs.Prelude.{ℕ, zero, suc, ◌+◌, ◌*◌, Bool, true, false, cond, ◌&&◌, List, [], ◌∷◌, length, ℤ, is_some, Some, None, Option, ◌==◌, nat_eq, nat_le}
-use Rattle.std.specs.Option.{option_map}
 use Rattle.message.specs.declared.rows.Row.{Row}
 use Rattle.dictionaries.specs.Values.{same}
 use Rattle.schemas.specs.declared.kinds.Kind.{Kind}

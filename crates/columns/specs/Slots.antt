@@ -1,5 +1,5 @@
 -- What a slot of a column holds, where it keeps the rules of its kind.
-use Rattle.std.specs.Prelude.{ℕ, zero, suc, ◌+◌, ◌-◌, ◌*◌, ◌/◌, ◌%◌, ◌^◌, Bool, true, false, cond, not, ◌&&◌, ◌||◌, List, [], ◌∷◌, length, get_or, take, drop, ℤ, pos, negsuc, ◌+ℤ◌, is_some, Some, None, Option, ◌==◌, int_le, int_lt, nat_le, nat_lt, slice_index, slice_index_or}
+use Rattle.std.specs.Prelude.{ℕ, ◌+◌, ◌-◌, ◌*◌, ◌/◌, ◌%◌, ◌^◌, Bool, true, false, not, ◌&&◌, List, [], ◌∷◌, length, get_or, take, drop, ℤ, pos, negsuc, ◌+ℤ◌, Some, None, Option, ◌==◌, int_le, int_lt, nat_le, nat_lt, slice_index, slice_index_or}
 use Rattle.std.proofs.Common.{to_z}
 use Rattle.std.specs.Int.{Width, w8, w16, w32, w64}
 use Rattle.std.specs.Option.{option_map}
@@ -8,11 +8,10 @@ use Rattle.little.specs.Numbers.{number_in}
 use Rattle.message.specs.declared.rows.Row.{Row}
 use Rattle.types.specs.Choices.{beside}
 use Rattle.texts.specs.Utf8.{well_formed}
-use Rattle.dictionaries.specs.Values.{Value, same}
+use Rattle.dictionaries.specs.Values.{same}
 use Rattle.dictionaries.specs.Places.{Held, Stored}
 use Rattle.schemas.specs.declared.kinds.Kind.{Kind}
 use Rattle.schemas.specs.declared.kinds.Kind.TheVariants.{Null, Bool as BoolKind, Fixed, Binary, LargeBinary, View, List as ListKind, LargeList, ListView, LargeListView, FixedSizeList, Struct, Dictionary, SparseUnion, DenseUnion}
-use Rattle.schemas.specs.Schemas.{Fields, none, field}
 use Rattle.schemas.specs.Takings.{natural}
 use Rattle.columns.specs.Looks.{Sight, Part, Child, Look}
 

@@ -5,8 +5,8 @@ use Rattle.std.specs.Option.{option_map}
 use Rattle.little.specs.Maybe.{and_then}
 use Rattle.dictionaries.specs.Values.{Value, Dictionary, same, held, replaced, extended, grown, room_of, room_all}
 use Rattle.dictionaries.specs.Stores.{written, area, store, read_one}
-use Rattle.dictionaries.specs.Places.{Stored, value_from, value_in, held_by}
-use Rattle.dictionaries.specs.Areas.{Area, packed, area_in, read_from, read_in, held_in, renewed, enlarged, area_of, areas_of, AllShort, EachShort, StandForLists}
+use Rattle.dictionaries.specs.Places.{value_from, value_in}
+use Rattle.dictionaries.specs.Areas.{Area, packed, area_in, read_from, read_in, renewed, enlarged, area_of, areas_of, AllShort, EachShort, StandForLists}
 use Rattle.dictionaries.proofs.Stored.{read_back, length_area}
 
 -- the same test on both sides

@@ -1,5 +1,5 @@
 -- Values that fit a store of less than 2^32 - 1 bytes are short.
-use Rattle.std.proofs.Common.{ℕ, ◌+◌, ◌<◌, ◌≤◌, List, [], ◌∷◌, length, Some, None, arith}
+use Rattle.std.proofs.Common.{◌<◌, List, [], ◌∷◌, Some, None, arith}
 use Rattle.dictionaries.specs.Values.{Value, Dictionary, room_of, room_all, used}
 use Rattle.dictionaries.specs.Stores.{Short}
 use Rattle.dictionaries.specs.Areas.{AllShort, EachShort}

@@ -1,10 +1,10 @@
 -- What is written to a store is read back, and is as long as its room.
-use Rattle.std.proofs.Common.{◌≡◌, ℕ, ◌+◌, ◌*◌, ◌/◌, ◌%◌, ◌<◌, ◌≤◌, Bool, true, false, eqb, leb, List, [], ◌∷◌, ◌++◌, length, take, drop, Some, None, sym, refl, ap, ◌∙◌, arith, length-append}
+use Rattle.std.proofs.Common.{◌≡◌, ℕ, ◌<◌, ◌≤◌, true, false, List, [], ◌∷◌, ◌++◌, length, take, drop, Some, None, refl, ap, ◌∙◌, arith, length-append}
 use Rattle.std.proofs.lemmas.List.{take_at, drop_at}
-use Rattle.std.proofs.lemmas.Bool.{le-leb, ne_eqb, eq-eqb}
-use Rattle.little.specs.Numbers.{le, number_in}
+use Rattle.std.proofs.lemmas.Bool.{le-leb, ne_eqb}
+use Rattle.little.specs.Numbers.{number_in}
 use Rattle.dictionaries.specs.Values.{Value, Dictionary, room_of, room_all, used}
-use Rattle.dictionaries.specs.Stores.{spelled, written, area, store, Read, read_bytes, read_one, Short}
+use Rattle.dictionaries.specs.Stores.{spelled, written, area, store, read_bytes, read_one, Short}
 
 spells : (n : ℕ) (more : List ℕ) → n < 4294967296 → number_in 4 (spelled n ++ more) 0 ≡ n
 unfolding number_in

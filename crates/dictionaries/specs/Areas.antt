@@ -2,7 +2,7 @@
 use Rattle.std.specs.Prelude.{◌≡◌, ℕ, zero, suc, ◌+◌, Bool, true, false, ◌&&◌, List, [], ◌∷◌, ◌++◌, length, ℤ, Some, None, Option, nat_le, nat_lt}
 use Rattle.std.specs.Option.{option_map}
 use Rattle.little.specs.Maybe.{and_then}
-use Rattle.dictionaries.specs.Values.{Value, Dictionary, same, replaced, grown, room_of, used}
+use Rattle.dictionaries.specs.Values.{Value, Dictionary, same, replaced, grown, room_of}
 use Rattle.dictionaries.specs.Stores.{area, store, Short, read_one}
 use Rattle.dictionaries.specs.Places.{Stored, Held, held_by}
 

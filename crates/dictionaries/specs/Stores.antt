@@ -1,8 +1,8 @@
 -- The bytes of a store that stand for dictionaries: the area of each id, packed from byte 0 by first arrival.
-use Rattle.std.specs.Prelude.{◌≡◌, ℕ, ◌+◌, ◌/◌, ◌%◌, ◌<◌, Bool, true, false, List, [], ◌∷◌, ◌++◌, length, take, drop, ℤ, Some, None, Option, ◌==◌, nat_le}
+use Rattle.std.specs.Prelude.{◌≡◌, ℕ, ◌+◌, ◌/◌, ◌%◌, ◌<◌, true, false, List, [], ◌∷◌, ◌++◌, length, take, drop, ℤ, Some, None, Option, ◌==◌, nat_le}
 use Rattle.std.specs.Option.{unwrap_or}
 use Rattle.little.specs.Numbers.{number_in}
-use Rattle.dictionaries.specs.Values.{Value, Dictionary, same, held, replaced, room_of, room_all, used}
+use Rattle.dictionaries.specs.Values.{Value, Dictionary, same, held, replaced, room_all, used}
 
 -- a number below 2^32 in 4 bytes
 abbrev pub spelled : ℕ → List ℕ

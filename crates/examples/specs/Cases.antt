@@ -1,13 +1,13 @@
 -- Streams and metadata worked out from their bytes.
-use Rattle.std.specs.Prelude.{◌≡◌, ℕ, true, false, List, [], ◌∷◌, ◌++◌, length, take, ℤ, pos, negsuc, Some, None}
+use Rattle.std.specs.Prelude.{◌≡◌, ℕ, true, false, List, [], ◌∷◌, ◌++◌, take, pos, negsuc, Some, None}
 use Rattle.message.specs.declared.faults.Place.{Place}
 use Rattle.message.specs.declared.faults.Refusal.TheVariants.{BehindEnd, MetadataSize, Metadata, BodyLength}
 use Rattle.message.specs.declared.headers.Facts.{Facts}
 use Rattle.message.specs.declared.headers.Header.TheVariants.{Empty}
 use Rattle.message.specs.Faults.{placed}
-use Rattle.message.specs.Messages.{Message, Read, dictionary, batch, schema, facts_of}
+use Rattle.message.specs.Messages.{dictionary, batch, schema, facts_of}
 use Rattle.framing.specs.Frames.{Holds, Envelope, frame, end}
-use Rattle.framing.specs.Streams.{Stream, well, short, by, start, stream}
+use Rattle.framing.specs.Streams.{well, short, by, start, stream}
 use Rattle.slip.specs.Slips.{slip_meaning}
 use Rattle.flatbuf.specs.Flat.{flat_meaning}
 use Rattle.texts.specs.Utf8.{well_formed}

@@ -10,8 +10,7 @@ use Rattle.columns.specs.Cells.{cell_at}
 use Rattle.feeds.specs.Messages.{fields_of}
 use Rattle.examples.specs.Lines.{Lines, Ending, ok, cut, refused, trace}
 use Rattle.dictionaries.specs.Areas.{held_in}
-use Rattle.examples.specs.Dictionaries.{fields, held}
-use Rattle.examples.specs.Given.{row, leaf, node, buffer, columns, terms, zeros, bytes_at}
+use Rattle.examples.specs.Given.{leaf, node, buffer, terms, zeros, bytes_at}
 
 -- a text column of two slots, the first of them absent, asked for a cell over these bytes: validity, offsets, data
 abbrev pub asked : List ℕ → ℕ → ℕ → Result Cell Refusal

@@ -4,7 +4,7 @@ use Rattle.message.specs.declared.items.Buffer.{Buffer}
 use Rattle.message.specs.declared.items.Node.{Node}
 use Rattle.message.specs.declared.rows.Row.{Row}
 use Rattle.message.specs.Faults.{number_of}
-use Rattle.message.specs.Messages.{Columns, Contents, schema, batch}
+use Rattle.message.specs.Messages.{Columns, Contents, batch}
 use Rattle.dictionaries.specs.Values.{Dictionary}
 use Rattle.columns.specs.Entries.{Choice, all, these}
 use Rattle.columns.specs.Slots.{Cell, part, stored}

@@ -1,5 +1,5 @@
 -- What a stream tells as plain lines: the rows of its schema, its batches with their places and cells, and how it ends.
-use Rattle.std.specs.Prelude.{ℕ, zero, suc, ◌+◌, ◌/◌, ◌%◌, min, Bool, true, false, List, [], ◌∷◌, ◌++◌, length, Some, None, Ok, Err, Option, Result}
+use Rattle.std.specs.Prelude.{ℕ, zero, suc, ◌+◌, ◌/◌, ◌%◌, min, List, [], ◌∷◌, ◌++◌, length, Some, None, Option, Result}
 use Rattle.std.specs.Option.{option_map, unwrap_or}
 use Rattle.message.specs.declared.faults.Fault.{Fault}
 use Rattle.message.specs.declared.faults.Place.{Place}
@@ -10,7 +10,6 @@ use Rattle.schemas.specs.Schemas.{listing}
 use Rattle.columns.specs.Looks.{Sight, length_at}
 use Rattle.columns.specs.Slots.{Cell}
 use Rattle.columns.specs.Cells.{cell_at}
-use Rattle.columns.specs.Reads.{Broken}
 use Rattle.framing.specs.Streams.{Close, well, short, by}
 use Rattle.feeds.specs.Messages.{Terms, Batch}
 use Rattle.feeds.specs.Streams.{Told, Meaning, feed}

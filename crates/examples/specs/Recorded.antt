@@ -1,11 +1,11 @@
 -- Recorded streams: what the definition of a feed gives for their bytes, which are written as one number, the first byte
 -- lowest. The last two are a small feed of clues, with a dictionary of setters that grows and is replaced.
-use Rattle.std.specs.Prelude.{◌≡◌, true, false, List, [], ◌∷◌, pos, negsuc, Some, None, Ok}
+use Rattle.std.specs.Prelude.{◌≡◌, [], ◌∷◌, pos, negsuc, Some, None, Ok}
 use Rattle.slip.specs.Slips.{slip_meaning}
 use Rattle.flatbuf.specs.Flat.{flat_meaning}
 use Rattle.columns.specs.Entries.{all, these}
-use Rattle.columns.specs.Slots.{absent, bit, part, stored, span, group, link}
-use Rattle.examples.specs.Lines.{spelled, ok, cut, refused, trace}
+use Rattle.columns.specs.Slots.{absent, part, stored, span}
+use Rattle.examples.specs.Lines.{spelled, ok, refused, trace}
 
 pub record Recorded : Type 0 where
   pub compressed : trace 64 (record { message = 1048576; body = 16777216; store = 1048576; nodes = 4096; buffers = 4096; counts = 4096; columns = 4096; choice = all }) flat_meaning (spelled 312 0xb7f00000000000000000000000000000000000000000000000000000000000000000000000000000000000000000000000000000000000000000000000000000fff00000000000000007fffffffffffffff0000000100000000000000000000000200000000000000000000000100000004000400040000000c000000000000000c00000014000000340000000c000800140004000c0018000c0002000000000000000000000000004803000000000000240000000c000c0004000b001a001c000c000000000000001400000088ffffffff006c6f630000000306000000000000080000000a000b00000004000c000a00000000001000000001000000040000000800040000000800080002000000000010010000000000000a00080007000e0010000a00000000001000000058ffffffff) ≡ record {

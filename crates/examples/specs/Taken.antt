@@ -1,5 +1,5 @@
 -- What rows take of a message, and which columns are shown.
-use Rattle.std.specs.Prelude.{◌≡◌, ℕ, true, false, List, [], ◌∷◌, length, ℤ, pos, negsuc, Some, None}
+use Rattle.std.specs.Prelude.{◌≡◌, ℕ, true, false, List, [], ◌∷◌, ℤ, pos, negsuc, Some, None}
 use Rattle.message.specs.declared.rows.Row.{Row}
 use Rattle.message.specs.Messages.{Columns, batch}
 use Rattle.columns.specs.Entries.{all}

@@ -1,13 +1,13 @@
 -- Two runs on the same bytes show the same.
-use Rattle.std.proofs.Common.{◌≡◌, ℕ, zero, suc, ◌+◌, List, [], ◌∷◌, drop, Some, None, Ok, Err, Option, Result, sym, refl, ap, ◌∙◌, subst, inl, inr, add-one, arith}
+use Rattle.std.proofs.Common.{◌≡◌, ℕ, zero, suc, List, [], ◌∷◌, drop, Some, None, Ok, Err, Option, Result, sym, refl, ap, ◌∙◌, inl, inr, add-one, arith}
 use Rattle.std.specs.List.{slice_get}
 use Rattle.little.proofs.Maybe.{some_same}
 use Rattle.message.specs.declared.faults.Fault.{Fault}
 use Rattle.columns.specs.Slots.{Cell}
 use Rattle.feeds.specs.Messages.{Terms, Batch}
 use Rattle.feeds.specs.Streams.{Meaning, feed}
-use Rattle.feeds.specs.Calls.{Memories, Own, Feed, Fed, opened, barely, place_in, cell_of}
-use Rattle.feeds.specs.Runs.{Question, piece_other, place, cell, cell_other, finish, schema_row, Call, feeds, asks, Runs, Gets, head_of, tail_of, current_by, coming_by, AnswerBy, AnsweredBy, Shows}
+use Rattle.feeds.specs.Calls.{Memories, Own, Feed, opened, barely, place_in, cell_of}
+use Rattle.feeds.specs.Runs.{Question, piece_other, place, cell, cell_other, finish, schema_row, Call, feeds, asks, Runs, Gets, head_of, tail_of, current_by, coming_by, AnswerBy, AnsweredBy}
 use Rattle.feeds.specs.Promises.{now_by, next_by, CellBy, PlaceBy, Asked, AskedCell, AskedPlace, Alike}
 use Rattle.feeds.proofs.RunOf.{lawful}
 

@@ -1,24 +1,22 @@
 -- A run for chosen columns beside a run for all.
-use Rattle.std.proofs.Common.{◌≡◌, ℕ, zero, suc, ◌+◌, ◌<◌, true, List, [], ◌∷◌, drop, Some, None, Ok, Err, Option, Result, sym, refl, ap, ◌∙◌, subst, arith}
+use Rattle.std.proofs.Common.{◌≡◌, ℕ, zero, suc, ◌+◌, ◌<◌, List, [], ◌∷◌, Some, None, Ok, Err, Option, Result, sym, refl, ap, ◌∙◌, subst, arith}
 use Rattle.std.specs.Option.{option_map}
 use Rattle.std.specs.List.{slice_get}
 use Rattle.little.proofs.Maybe.{mapped_is, some_same, none_some}
-use Rattle.message.specs.declared.faults.Fault.{Fault}
 use Rattle.message.specs.declared.faults.Place.{Place}
 use Rattle.message.specs.declared.faults.Refusal.{Refusal}
-use Rattle.message.specs.Messages.{Read, Message}
-use Rattle.framing.specs.Frames.{Frame, Shown, frame, end}
-use Rattle.framing.specs.Streams.{Close, Stream, stream}
-use Rattle.schemas.specs.Schemas.{count}
-use Rattle.columns.specs.Entries.{all, these, named}
+use Rattle.message.specs.Messages.{Read}
+use Rattle.framing.specs.Frames.{Shown, frame, end}
+use Rattle.framing.specs.Streams.{Close, stream}
+use Rattle.columns.specs.Entries.{all, these}
 use Rattle.columns.specs.Slots.{Cell}
 use Rattle.columns.specs.Cells.{cell_at}
-use Rattle.feeds.specs.Messages.{Terms, Kept, Batch, Outcome, refuses, keeps, shows, act}
-use Rattle.feeds.specs.Streams.{Meaning, envelope, holds_of, nothing_kept, act_read, act_frame, Told, and_batch, tells, messages, feed}
-use Rattle.feeds.specs.Chosen.{choosing, counted_from, column_size, SameColumn, AtPlace, SameColumns, TakenToo, ChosenColumns}
+use Rattle.feeds.specs.Messages.{Terms, Kept, Batch, Outcome, refuses, keeps, shows}
+use Rattle.feeds.specs.Streams.{Meaning, envelope, holds_of, nothing_kept, act_read, act_frame, Told, tells, messages, feed}
+use Rattle.feeds.specs.Chosen.{choosing, counted_from, column_size, SameColumns, TakenToo, ChosenColumns}
 use Rattle.feeds.specs.Calls.{Memories, Own, Feed, opened, barely, entry_by, place_in, cell_of}
-use Rattle.feeds.specs.Runs.{Call, Runs, Gets, lengths, lengths_of, Shows}
-use Rattle.feeds.specs.Promises.{AskedCell, AskedPlace, counted_fault, AllNamed, size_in, ChosenAlike}
+use Rattle.feeds.specs.Runs.{Call, Runs, Gets, lengths_of}
+use Rattle.feeds.specs.Promises.{counted_fault, AllNamed, size_in, ChosenAlike}
 use Rattle.feeds.proofs.RunOf.{lawful}
 use Rattle.feeds.proofs.Alike.{cell_by_lem, place_by_lem}
 

@@ -15,11 +15,11 @@ use Rattle.dictionaries.proofs.Read.{packed_is, stand_for_lists}
 use Rattle.dictionaries.proofs.Shorts.{each_short}
 use Rattle.dictionaries.proofs.Stored.{room_is_length}
 use Rattle.schemas.specs.Schemas.{Fields, admits}
-use Rattle.columns.specs.Looks.{Sight, unsigned}
+use Rattle.columns.specs.Looks.{unsigned}
 use Rattle.columns.specs.Rules.{Numbered, value_row_of}
 use Rattle.columns.specs.Reads.{Broken, plainly}
-use Rattle.feeds.specs.Messages.{Terms, Kept, Batch, Outcome, refuses, keeps, shows, fields_of, batch_fault, batch_sight, batch_of, batch_by, value_sight, values_fault, values_from, updated, stored_by, values_by, act_values, act_schema, act_on, act}
-use Rattle.feeds.specs.Streams.{Meaning, envelope, holds_of, nothing_kept, act_read, act_frame, Told, tells, messages, feed}
+use Rattle.feeds.specs.Messages.{Terms, Kept, Batch, Outcome, refuses, keeps, shows, fields_of, batch_fault, batch_sight, batch_of, batch_by, value_sight, values_fault, updated, stored_by, values_by, act_values, act_schema, act_on, act}
+use Rattle.feeds.specs.Streams.{Meaning, envelope, holds_of, nothing_kept, act_read, Told, tells, messages, feed}
 use Rattle.feeds.specs.Lists.{values_in, ListBy, Updates, ListsBy, ListsAfter, KeptWell}
 use Rattle.feeds.proofs.Sound.{Good, act_good}
 

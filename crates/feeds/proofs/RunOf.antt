@@ -1,34 +1,33 @@
 -- A run of calls on a feed and its memories goes by where the feed stands, and is lawful.
-use Rattle.std.proofs.Common.{◌≡◌, ℕ, ◌<◌, ◌≤◌, Bool, true, false, List, [], ◌∷◌, ◌++◌, length, take, drop, ℤ, Some, None, Ok, Err, Option, Result, sym, refl, ap, ◌∙◌, subst, append_assoc, arith, take-append-drop}
+use Rattle.std.proofs.Common.{◌≡◌, ℕ, Bool, true, false, List, [], ◌∷◌, ◌++◌, length, take, drop, ℤ, Some, None, Ok, Err, Option, Result, sym, refl, ap, ◌∙◌, subst, append_assoc, arith, take-append-drop}
 use Rattle.std.proofs.lemmas.List.{take_at, drop_at}
 use Rattle.message.specs.declared.faults.Fault.{Fault}
 use Rattle.message.specs.declared.faults.Place.{Place}
-use Rattle.message.specs.declared.faults.Refusal.{Refusal}
 use Rattle.message.specs.declared.faults.Refusal.TheVariants.{ChoiceLength, Lengths}
 use Rattle.message.specs.declared.items.Buffer.{Buffer}
 use Rattle.message.specs.declared.items.Node.{Node}
 use Rattle.message.specs.Faults.{bare}
-use Rattle.message.specs.Messages.{Read, Message}
-use Rattle.framing.specs.Frames.{Frame, Shown, frame, end}
+use Rattle.message.specs.Messages.{Read}
+use Rattle.framing.specs.Frames.{Shown, frame, end}
 use Rattle.framing.specs.Moves.{Moved, on, shows, refuses, Went, quiet, showed, refused, went_on, goes}
 use Rattle.framing.specs.Steps.{Stand, header, metadata, body, ended, stopped, step}
 use Rattle.dictionaries.specs.Areas.{Area, packed, held_in}
 use Rattle.dictionaries.specs.Places.{Held}
 use Rattle.columns.specs.declared.entries.Column.{Column}
-use Rattle.columns.specs.Looks.{Sight, Look, look}
+use Rattle.columns.specs.Looks.{Sight}
 use Rattle.columns.specs.Slots.{Cell}
-use Rattle.columns.specs.Cells.{cell_at, InRange, Points}
+use Rattle.columns.specs.Cells.{cell_at}
 use Rattle.columns.specs.Extended.{extended}
 use Rattle.columns.proofs.Extends.{cells_front}
-use Rattle.feeds.specs.Messages.{Terms, Kept, Batch, Outcome, refuses as refuses_it, keeps, shows as shows_it, act}
-use Rattle.feeds.specs.Streams.{Meaning, envelope, holds_of, act_read, act_frame, feed}
-use Rattle.feeds.specs.Steps.{State, Move, starting, acted, shown_frame, moved_by, feed_step, fed_by, fed}
-use Rattle.feeds.specs.Calls.{Memories, Own, Feed, in_bounds, few_numbers, opening, opened, Fed, answered, leaves, Front, Shown as ShownIn, ShownBatch, Holds, Feeds, Cells, barely, place_in, cell_of, recut, sight_in, cell_in}
-use Rattle.feeds.specs.Runs.{Question, piece_other, place, cell, cell_other, finish, schema_row, Call, feeds, asks, Asks, Runs, Gets, Shows, CellStands, Unstuck, NeverStuck}
+use Rattle.feeds.specs.Messages.{Terms, Kept, Batch, Outcome, refuses as refuses_it, keeps, shows as shows_it}
+use Rattle.feeds.specs.Streams.{Meaning, envelope, holds_of, act_read, act_frame}
+use Rattle.feeds.specs.Steps.{State, Move, acted, shown_frame, moved_by, feed_step, fed_by, fed}
+use Rattle.feeds.specs.Calls.{Memories, Own, Feed, in_bounds, few_numbers, opening, opened, Fed, leaves, Front, Shown as ShownIn, ShownBatch, Holds, Feeds, Cells, barely, cell_of, recut, sight_in, cell_in}
+use Rattle.feeds.specs.Runs.{Question, piece_other, place, cell, cell_other, finish, schema_row, Call, feeds, asks, Asks, Runs, Shows, CellStands, Unstuck, NeverStuck}
 use Rattle.feeds.specs.Promises.{Lawful}
 use Rattle.feeds.proofs.Told.{steps_tell}
 use Rattle.feeds.proofs.Sound.{Sound, Good, act_good, sound_answers}
-use Rattle.feeds.proofs.Shown.{FollowsBy, Follows, ShowsFrom, shows_run}
+use Rattle.feeds.proofs.Shown.{FollowsBy, Follows, shows_run}
 
 -- a batch whose rules hold, which is looked at through the dictionaries that are kept
 abbrev SaneBatch : Option Batch → Kept → Type 0

@@ -1,5 +1,5 @@
 -- Batches that a message shows are sound.
-use Rattle.std.proofs.Common.{◌≡◌, ℕ, ◌+◌, ◌<◌, ◌≤◌, Bool, true, false, not, ◌||◌, List, [], ◌∷◌, length, ℤ, Some, None, Option, unwrap_or, sym, refl, ap, ◌∙◌, subst, arith}
+use Rattle.std.proofs.Common.{◌≡◌, ℕ, ◌<◌, Bool, true, false, not, ◌||◌, List, length, ℤ, Some, None, Option, unwrap_or, refl, subst, arith}
 use Rattle.message.specs.declared.faults.Refusal.TheVariants.{Marks, ListLength, Room, Rows}
 use Rattle.message.specs.declared.rows.Row.{Row}
 use Rattle.message.specs.Messages.{Columns, Contents, nothing, schema, dictionary, batch, other, Message}

@@ -3,14 +3,14 @@ use Rattle.std.proofs.Common.{◌≡◌, ℕ, List, [], ◌∷◌, refl, ap, ◌
 use Rattle.message.specs.declared.faults.Fault.{Fault}
 use Rattle.message.specs.declared.faults.Place.{Place}
 use Rattle.framing.specs.Calls.{close_of}
-use Rattle.framing.specs.Frames.{Frame, Shown, frame, end}
+use Rattle.framing.specs.Frames.{Shown, frame, end}
 use Rattle.framing.specs.Moves.{Moved, on, shows, refuses, Whole, whole_on, whole}
 use Rattle.framing.specs.Steps.{Stand, header, step}
-use Rattle.framing.specs.Streams.{Close, Stream, start, stream}
+use Rattle.framing.specs.Streams.{start}
 use Rattle.framing.proofs.Frames.{stream_of, whole_is}
-use Rattle.feeds.specs.Messages.{Terms, Kept, Batch, Outcome, refuses as refuses_it, keeps, shows as shows_it}
-use Rattle.feeds.specs.Streams.{Meaning, envelope, holds_of, nothing_kept, act_frame, Told, and_batch, tells, messages, told_by, feed}
-use Rattle.feeds.specs.Steps.{State, Move, starting, acted, shown_frame, moved_by, feed_step}
+use Rattle.feeds.specs.Messages.{Terms, Kept, Outcome, refuses as refuses_it, keeps, shows as shows_it}
+use Rattle.feeds.specs.Streams.{Meaning, envelope, holds_of, nothing_kept, act_frame, and_batch, tells, messages, told_by, feed}
+use Rattle.feeds.specs.Steps.{starting, acted, shown_frame, moved_by, feed_step}
 use Rattle.feeds.specs.Laws.{told_of}
 
 module _ (t : Terms) (m : Meaning) where

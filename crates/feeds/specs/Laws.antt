@@ -4,7 +4,7 @@ use Rattle.message.specs.Messages.{Message}
 use Rattle.framing.specs.Calls.{close_of}
 use Rattle.framing.specs.Moves.{Whole, whole}
 use Rattle.columns.specs.Cells.{InRange, Answers}
-use Rattle.feeds.specs.Messages.{Terms, Kept, Batch, Outcome, shows, act}
+use Rattle.feeds.specs.Messages.{Terms, Kept, Batch, shows, act}
 use Rattle.feeds.specs.Streams.{Meaning, Told, feed}
 use Rattle.feeds.specs.Steps.{State, starting, feed_step}
 

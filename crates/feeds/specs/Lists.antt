@@ -1,7 +1,6 @@
 -- Dictionaries as lists of values: what the areas that a feed keeps stand for.
-use Rattle.std.specs.Prelude.{◌≡◌, ℕ, ◌<◌, Bool, true, false, List, ℤ, Some, None, Option}
+use Rattle.std.specs.Prelude.{◌≡◌, ℕ, ◌<◌, Bool, true, false, List, ℤ, Some}
 use Rattle.std.specs.Option.{unwrap_or}
-use Rattle.message.specs.declared.rows.Row.{Row}
 use Rattle.message.specs.Messages.{Columns, Contents, nothing, schema, dictionary, batch, other, Message}
 use Rattle.dictionaries.specs.Values.{Value, Dictionary, replaced, grown}
 use Rattle.dictionaries.specs.Areas.{areas_of, fits, EachShort}

@@ -1,5 +1,5 @@
 -- What a message does: it is refused; or the schema and the dictionaries are kept on; or a batch is shown.
-use Rattle.std.specs.Prelude.{ℕ, zero, suc, ◌+◌, Bool, true, false, cond, not, ◌&&◌, ◌||◌, List, [], ◌∷◌, length, ℤ, pos, negsuc, Some, None, Ok, Err, Option, Result, ◌==◌, nat_le}
+use Rattle.std.specs.Prelude.{ℕ, zero, suc, ◌+◌, Bool, true, false, cond, not, ◌&&◌, ◌||◌, List, [], ◌∷◌, length, ℤ, Some, None, Ok, Err, Option, Result, ◌==◌, nat_le}
 use Rattle.std.specs.Option.{unwrap_or}
 use Rattle.message.specs.declared.faults.Refusal.{Refusal}
 use Rattle.message.specs.declared.faults.Refusal.TheVariants.{HeaderType, SecondSchema, Rows, NoSchema, NoSuchId, Marks, ListLength, NoSuchColumn, CountsLeft, BatchLength, DeltaFirst, Room}
@@ -11,7 +11,7 @@ use Rattle.dictionaries.specs.Areas.{Area, held_in, renewed, enlarged, fits}
 use Rattle.schemas.specs.Schemas.{Fields, none, field, count, parse, admits}
 use Rattle.schemas.specs.Takings.{nothing_yet, after}
 use Rattle.columns.specs.declared.entries.Column.{Column}
-use Rattle.columns.specs.Entries.{Choice, all, these, shows as shows_column, numbers, named, entries, shown_entries, places_of}
+use Rattle.columns.specs.Entries.{Choice, shows as shows_column, numbers, named, entries, shown_entries, places_of}
 use Rattle.columns.specs.Looks.{Sight, longest, length_at, unsigned}
 use Rattle.columns.specs.Slots.{Cell, absent, bit, part, stored, span, group, link}
 use Rattle.columns.specs.Rules.{Numbered, value_row_of}

@@ -1,13 +1,13 @@
 -- What holds throughout every run of calls from an accepted opening, for every reading.
-use Rattle.std.specs.Prelude.{◌≡◌, ℕ, suc, ◌+◌, ◌<◌, true, ◌⊎◌, List, [], ◌∷◌, length, Some, None, Ok, Err, Option, Result}
+use Rattle.std.specs.Prelude.{◌≡◌, ℕ, ◌+◌, ◌<◌, true, ◌⊎◌, List, [], ◌∷◌, Some, None, Ok, Err, Option, Result}
 use Rattle.message.specs.declared.faults.Fault.{Fault}
 use Rattle.feeds.specs.Messages.{Terms, Batch}
 use Rattle.feeds.specs.Chosen.{choosing, counted, column_size}
-use Rattle.feeds.specs.Streams.{Meaning, Told, feed}
+use Rattle.feeds.specs.Streams.{Meaning, feed}
 use Rattle.feeds.specs.Calls.{Memories, Own, Feed, opened}
 use Rattle.columns.specs.Entries.{all, these, named}
 use Rattle.columns.specs.Slots.{Cell}
-use Rattle.schemas.specs.Schemas.{Fields, count}
+use Rattle.schemas.specs.Schemas.{count}
 use Rattle.std.specs.List.{slice_get}
 use Rattle.feeds.specs.Runs.{Question, piece_other, place, cell, cell_other, finish, schema_row, Call, feeds, asks, Runs, Gets, lengths, first_refusal, Finished, Shows, NeverStuck}
 

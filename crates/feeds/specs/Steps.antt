@@ -1,9 +1,9 @@
 -- A feed byte by byte: the frames' own steps, with the message of each frame acted on when it is whole.
-use Rattle.std.specs.Prelude.{ℕ, List, [], ◌∷◌}
+use Rattle.std.specs.Prelude.{ℕ, List, []}
 use Rattle.message.specs.declared.faults.Fault.{Fault}
 use Rattle.message.specs.declared.faults.Place.{Place}
-use Rattle.framing.specs.Frames.{Frame, Shown, frame, end}
-use Rattle.framing.specs.Moves.{Moved, on, shows, refuses, Went, quiet, showed, refused, goes, whole}
+use Rattle.framing.specs.Frames.{Shown, frame, end}
+use Rattle.framing.specs.Moves.{Moved, on, shows, refuses, Went, refused, goes}
 use Rattle.framing.specs.Steps.{Stand, header, metadata, body, ended, stopped, step}
 use Rattle.framing.specs.Streams.{start}
 use Rattle.columns.specs.Reads.{fault_at}

@@ -1,11 +1,11 @@
 -- What a whole stream shows, by its bytes alone: its frames, and what the message in each does, one after the other.
-use Rattle.std.specs.Prelude.{ℕ, List, [], ◌∷◌, Some, None, Option}
+use Rattle.std.specs.Prelude.{ℕ, List, [], ◌∷◌, Some, None}
 use Rattle.message.specs.declared.faults.Place.{Place}
 use Rattle.message.specs.declared.faults.Refusal.TheVariants.{Metadata}
-use Rattle.message.specs.Messages.{Message, Read, facts_of}
+use Rattle.message.specs.Messages.{Read, facts_of}
 use Rattle.framing.specs.Frames.{Holds, Envelope, Frame, Shown, frame, end}
-use Rattle.framing.specs.Streams.{Close, well, short, by, Stream, stream}
-use Rattle.columns.specs.Reads.{Broken, plainly, fault_at}
+use Rattle.framing.specs.Streams.{Close, by, Stream, stream}
+use Rattle.columns.specs.Reads.{plainly, fault_at}
 use Rattle.feeds.specs.Messages.{Terms, Kept, Batch, Outcome, refuses, keeps, shows, act}
 
 -- what a reading says of any metadata bytes

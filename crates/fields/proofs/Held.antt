@@ -1,10 +1,10 @@
 -- The rows in a table.
-use Rattle.std.proofs.Common.{◌≡◌, ℕ, zero, suc, ◌+◌, ◌^◌, ◌<◌, ◌≤◌, List, [], ◌∷◌, ◌++◌, length, get_or, take, drop, Some, None, unwrap_or, sym, refl, ap, ◌∙◌, ⊎_elim, arith, length-drop, length-take-le}
+use Rattle.std.proofs.Common.{◌≡◌, ℕ, zero, suc, ◌<◌, ◌≤◌, List, [], ◌∷◌, ◌++◌, length, get_or, take, drop, Some, None, unwrap_or, sym, refl, ap, ◌∙◌, ⊎_elim, arith, length-drop, length-take-le}
 use Rattle.std.proofs.lemmas.List.{nil_from_length, take-take}
 use Rattle.message.specs.Listed.{laid}
 use Rattle.std.proofs.lemmas.Bool.{cases_lt}
 use Rattle.little.specs.Numbers.{le, number_in, number_at}
-use Rattle.little.proofs.Spelled.{byte_inside, number_inside, number_outside}
+use Rattle.little.proofs.Spelled.{number_inside, number_outside}
 use Rattle.std.proofs.lemmas.Option.{slice_get-get_or, slice_get_past}
 use Rattle.std.specs.List.{slice_get}
 

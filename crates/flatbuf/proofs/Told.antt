@@ -3,15 +3,14 @@ use Rattle.std.proofs.Common.{◌≡◌, ℕ, Bool, true, false, cond, eqb, List
 use Rattle.std.specs.Option.{option_map}
 use Rattle.std.proofs.lemmas.Bool.{ne_eqb}
 use Rattle.message.specs.declared.headers.BatchFacts.{BatchFacts}
-use Rattle.message.specs.declared.headers.Facts.{Facts}
 use Rattle.message.specs.declared.headers.Header.{Header}
 use Rattle.message.specs.declared.headers.Header.TheVariants.{Empty, Schema, DictionaryBatch, RecordBatch, Other}
 use Rattle.message.specs.declared.rows.Row.{Row}
 use Rattle.message.specs.Items.{nodes_in, buffers_in, counts_in}
 use Rattle.message.specs.Listed.{listed}
-use Rattle.message.specs.Messages.{Columns, Contents, nothing, schema, dictionary, batch, other, Message, Read, batch_facts, header_of, rows_of, list_of}
+use Rattle.message.specs.Messages.{Columns, Contents, nothing, schema, dictionary, batch, other, Read, batch_facts, header_of, rows_of, list_of}
 use Rattle.flatbuf.specs.declared.heads.Head.{Head}
-use Rattle.flatbuf.specs.Asked.{or_none, part_by, told, told_by}
+use Rattle.flatbuf.specs.Asked.{or_none, part_by, told_by}
 use Rattle.flatbuf.specs.Flat.{Dictionary, Parts, batch_at, columns_in, contents_at, dictionary_at, flat_meaning, head_at, schema_at}
 
 abbrev dictionary_of : Dictionary → Contents

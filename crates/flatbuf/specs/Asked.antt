@@ -1,9 +1,7 @@
 -- What each question answers, by the header type.
 use Rattle.std.specs.Prelude.{ℕ, List, [], Some, None, Option}
 use Rattle.std.specs.Option.{option_map, unwrap_or}
-use Rattle.message.specs.declared.headers.BatchFacts.{BatchFacts}
 use Rattle.message.specs.declared.headers.Facts.{Facts}
-use Rattle.message.specs.declared.rows.Row.{Row}
 use Rattle.message.specs.Messages.{Message, Read, header_of}
 use Rattle.flatbuf.specs.Flat.{Parts}
 

@@ -1,10 +1,10 @@
 -- Metadata as FlatBuffers: the slots and defaults of Message, Schema, DictionaryBatch and RecordBatch.
-use Rattle.std.specs.Prelude.{ℕ, Bool, true, false, cond, not, ◌&&◌, List, [], length, ℤ, pos, is_some, Some, None, Option, ◌==◌, nat_le}
+use Rattle.std.specs.Prelude.{ℕ, Bool, true, false, cond, not, ◌&&◌, List, [], ℤ, pos, is_some, Some, None, Option, ◌==◌, nat_le}
 use Rattle.std.specs.Option.{option_flatten, option_map, unwrap_or}
 use Rattle.little.specs.Maybe.{and_then}
 use Rattle.message.specs.declared.rows.Row.{Row}
 use Rattle.message.specs.Items.{nodes_in, buffers_in, counts_in}
-use Rattle.message.specs.Messages.{Columns, Contents, nothing, schema, dictionary, batch, other, Message, Read}
+use Rattle.message.specs.Messages.{Columns, Contents, nothing, schema, dictionary, batch, other, Read}
 use Rattle.tables.specs.declared.Table.{Table}
 use Rattle.tables.specs.Tables.{table_at, u8_of, i16_of, i64_of, bool_of, present_of, leads, target_of, vector_at}
 use Rattle.types.specs.Choices.{is}

@@ -1,5 +1,5 @@
 -- The stream byte by byte is the stream frame by frame.
-use Rattle.std.proofs.Common.{◌≡◌, ℕ, zero, suc, ◌+◌, ◌-◌, ◌<◌, ◌≤◌, Bool, List, [], ◌∷◌, length, take, drop, Some, None, Ok, Err, Option, Result, sym, refl, ap, ◌∙◌, inl, inr, append-nil, arith, length-drop, take-append-drop}
+use Rattle.std.proofs.Common.{◌≡◌, ℕ, zero, suc, ◌+◌, ◌<◌, ◌≤◌, Bool, List, [], ◌∷◌, length, take, drop, Some, None, Ok, Err, Option, Result, sym, refl, ap, ◌∙◌, inl, inr, append-nil, arith, length-drop, take-append-drop}
 use Rattle.std.proofs.lemmas.List.{length-take-le, drop-drop}
 use Rattle.std.proofs.lemmas.Bool.{cases_lt, cases_eq}
 use Rattle.message.specs.declared.faults.Place.{Place}
@@ -7,8 +7,8 @@ use Rattle.message.specs.declared.headers.Facts.{Facts}
 use Rattle.message.specs.declared.readings.Refused.{Refused}
 use Rattle.framing.specs.Moves.{on, shows, Whole, whole_on, quiet, went_on, whole}
 use Rattle.framing.specs.Frames.{Holds, Envelope, Frame, Shown, frame, end, behind, marks, opening, size_of, body_length, length_of}
-use Rattle.framing.specs.Steps.{Stand, header, metadata, body, ended, stopped, Move, sized, bodied, told, filled, step}
-use Rattle.framing.specs.Streams.{First, cut, whole as one, with_body, with_facts, with_size, first, Close, well, short, by, Stream, none, also, after_end, followed, frames, start, stream}
+use Rattle.framing.specs.Steps.{Stand, header, metadata, body, ended, Move, sized, bodied, told, filled, step}
+use Rattle.framing.specs.Streams.{First, cut, whole as one, with_body, with_facts, with_size, first, short, Stream, none, also, after_end, followed, frames, start, stream}
 use Rattle.framing.specs.Calls.{close_of}
 use Rattle.framing.proofs.Blocks.{Acts, acts_whole}
 use Rattle.framing.proofs.Fills.{metadata_acts, body_acts, opening_bounds, opening_cut, opening_all}

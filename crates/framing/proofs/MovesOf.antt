@@ -13,7 +13,7 @@ use Rattle.framing.specs.declared.state.DecoderState.TheVariants.{Header, Finish
 use Rattle.framing.specs.declared.state.FrameDecoder.{FrameDecoder}
 use Rattle.framing.specs.Moves.{on, shows}
 use Rattle.framing.specs.Frames.{Holds, Envelope, frame, end, behind, marks, opening, size_of, body_length, at_most, length_of}
-use Rattle.framing.specs.Steps.{header, metadata, body, ended, sized, opened, filled, told, bodied, gathered}
+use Rattle.framing.specs.Steps.{header, ended, sized, opened, filled, told, bodied, gathered}
 use Rattle.framing.specs.Views.{stand_of, holds_of}
 use Rattle.framing.specs.Turns.{opening_in, Kept, Moves, Sized, Opened, Filled, Gathered}
 use Rattle.framing.proofs.Fills.{Opening, opening_bounds, opening_some, opening_whole}

@@ -1,10 +1,10 @@
 -- A frame is its parts.
-use Rattle.std.proofs.Common.{◌≡◌, ℕ, ◌+◌, ◌-◌, ◌<◌, ◌≤◌, Bool, true, false, cond, eqb, ltb, List, [], ◌∷◌, ◌++◌, length, get_or, take, drop, Some, None, Ok, Err, Option, Result, sym, refl, ap, ◌∙◌, subst, arith, length-append, length-drop, take-append-drop}
+use Rattle.std.proofs.Common.{◌≡◌, ℕ, ◌+◌, ◌-◌, ◌<◌, ◌≤◌, Bool, true, false, eqb, ltb, List, ◌++◌, length, take, drop, Some, None, Ok, Err, Option, Result, sym, refl, ap, ◌∙◌, subst, arith, length-append, length-drop, take-append-drop}
 use Rattle.std.proofs.lemmas.List.{get_or_append_left, take-append-le, drop-append-le, take_at, drop_at, drop-drop, length-take-le}
 use Rattle.std.proofs.lemmas.Bool.{eqb-false, ltb-false, le-ltb, ne_eqb}
 use Rattle.little.specs.Numbers.{le, number_in}
 use Rattle.message.specs.declared.faults.Place.{Place}
-use Rattle.message.specs.declared.faults.Refusal.TheVariants.{MetadataSize, Metadata, BodyLength}
+use Rattle.message.specs.declared.faults.Refusal.TheVariants.{MetadataSize}
 use Rattle.message.specs.declared.headers.Facts.{Facts}
 use Rattle.message.specs.declared.readings.Refused.{Refused}
 use Rattle.framing.specs.Frames.{Holds, Envelope, Frame, marks, opening, size_of, body_length, length_of}

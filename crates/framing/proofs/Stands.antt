@@ -6,7 +6,7 @@ use Rattle.message.specs.Faults.{bare}
 use Rattle.framing.specs.declared.state.DecoderState.{DecoderState}
 use Rattle.framing.specs.declared.state.DecoderState.TheVariants.{Header, Stopped}
 use Rattle.framing.specs.declared.state.FrameDecoder.{FrameDecoder}
-use Rattle.framing.specs.Steps.{metadata, body, stopped}
+use Rattle.framing.specs.Steps.{stopped}
 use Rattle.framing.specs.Calls.{between_frames, end_at}
 use Rattle.framing.specs.Views.{state_stand, stand_of, holds_of, Ends}
 use Rattle.framing.specs.Turns.{Kept}

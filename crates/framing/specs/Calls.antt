@@ -1,14 +1,13 @@
 -- What the calls of a decoder answer, by where it stands.
-use Rattle.std.specs.Prelude.{◌≡◌, ℕ, ◌-◌, List, [], ◌∷◌, length, take, Some, None, Ok, Err, Option, Result}
+use Rattle.std.specs.Prelude.{◌≡◌, ℕ, ◌-◌, List, [], ◌∷◌, length, take, Some, None, Ok, Err, Result}
 use Rattle.message.specs.declared.faults.Fault.{Fault}
 use Rattle.message.specs.declared.faults.Refusal.TheVariants.{Unfinished}
 use Rattle.message.specs.Faults.{bare}
 use Rattle.framing.specs.declared.events.Event.{Event}
 use Rattle.framing.specs.declared.events.Event.TheVariants.{Frame as FrameEvent, End as EndEvent}
-use Rattle.framing.specs.declared.events.FrameHead.{FrameHead}
 use Rattle.framing.specs.declared.events.Step.{Step}
 use Rattle.framing.specs.Moves.{Went, quiet, showed, refused, goes}
-use Rattle.framing.specs.Frames.{Holds, Envelope, Frame, Shown, frame, end}
+use Rattle.framing.specs.Frames.{Holds, Envelope, Shown, frame, end}
 use Rattle.framing.specs.Steps.{Stand, header, metadata, body, ended, stopped, step}
 use Rattle.framing.specs.Streams.{Close, well, short, by}
 

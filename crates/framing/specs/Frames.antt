@@ -1,5 +1,5 @@
 -- Frames: the continuation marker or none, the size of the metadata, the metadata, and the body.
-use Rattle.std.specs.Prelude.{ℕ, ◌+◌, ◌-◌, ◌%◌, ◌^◌, Bool, true, false, cond, ◌&&◌, List, length, ℤ, pos, negsuc, Some, None, Option, Result, ◌==◌, nat_le, slice_index}
+use Rattle.std.specs.Prelude.{ℕ, ◌+◌, ◌-◌, ◌%◌, ◌^◌, Bool, cond, ◌&&◌, List, length, ℤ, pos, negsuc, Some, None, Option, Result, ◌==◌, nat_le, slice_index}
 use Rattle.little.specs.Numbers.{number_in}
 use Rattle.message.specs.declared.faults.Place.{Place}
 use Rattle.message.specs.declared.headers.Facts.{Facts}

@@ -9,7 +9,7 @@ use Rattle.framing.specs.declared.events.Event.TheVariants.{Frame as FrameEvent,
 use Rattle.framing.specs.declared.events.Step.{Step}
 use Rattle.framing.specs.declared.state.FrameDecoder.{FrameDecoder}
 use Rattle.framing.specs.Frames.{Holds, Envelope, Shown, frame, end}
-use Rattle.framing.specs.Steps.{Stand, header}
+use Rattle.framing.specs.Steps.{header}
 use Rattle.framing.specs.Streams.{Close, well, short, by, Stream, start, stream}
 use Rattle.framing.specs.Views.{Own, stand_of, holds_of, Advances, Ends}
 

@@ -1,5 +1,5 @@
 -- A table that is filled item by item.
-use Rattle.std.proofs.Common.{◌≡◌, ℕ, zero, suc, ◌+◌, ◌<◌, ◌≤◌, List, [], ◌∷◌, ◌++◌, length, get_or, take, drop, set, Some, None, sym, refl, ap, ◌∙◌, arith}
+use Rattle.std.proofs.Common.{◌≡◌, ℕ, zero, suc, ◌+◌, ◌<◌, ◌≤◌, List, [], ◌∷◌, ◌++◌, length, get_or, take, drop, set, Some, None, ap, arith}
 use Rattle.std.proofs.lemmas.List.{drop_more, take_more, set_at, append_assoc, length-take-le}
 use Rattle.std.specs.List.{slice_get}
 use Rattle.message.specs.Listed.{laid}

@@ -1,12 +1,11 @@
 -- Columns that are shown and columns that are not take alike.
-use Rattle.std.proofs.Common.{◌≡◌, ℕ, zero, suc, ◌+◌, ◌<◌, ◌≤◌, Bool, true, false, eqb, leb, List, [], ◌∷◌, length, get_or, drop, ℤ, pos, negsuc, Some, None, Option, sym, refl, ap, ◌∙◌, subst, add-zero, arith}
+use Rattle.std.proofs.Common.{◌≡◌, ℕ, zero, suc, ◌+◌, Bool, true, false, eqb, leb, List, [], ◌∷◌, length, get_or, drop, ℤ, pos, negsuc, Some, None, Option, sym, refl, ap, ◌∙◌, subst, arith}
 use Rattle.std.proofs.lemmas.List.{drop-drop}
 use Rattle.std.specs.Option.{option_map}
 use Rattle.little.specs.Maybe.{and_then}
 use Rattle.little.proofs.Maybe.{mapped_is, then_is}
 use Rattle.message.specs.declared.items.Buffer.{Buffer}
 use Rattle.message.specs.declared.items.Node.{Node}
-use Rattle.message.specs.declared.rows.Row.{Row}
 use Rattle.schemas.specs.declared.kinds.Kind.{Kind}
 use Rattle.schemas.specs.declared.kinds.Kind.TheVariants.{Null, Bool as BoolKind, Fixed, Binary, LargeBinary, View, List as ListKind, LargeList, ListView, LargeListView, FixedSizeList, Struct, Dictionary, SparseUnion, DenseUnion}
 use Rattle.schemas.specs.Schemas.{Fields, none, field}

@@ -2,7 +2,7 @@
 use Rattle.std.proofs.Common.{◌≡◌, ℕ, zero, suc, ◌+◌, ◌-◌, ◌*◌, ◌<◌, ◌≤◌, Bool, true, false, ◌&&◌, ◌||◌, eqb, leb, List, [], ◌∷◌, ◌++◌, length, sym, refl, ap, ◌∙◌, arith}
 use Rattle.std.proofs.lemmas.Bool.{and_from, and_parts, or_left, or_right, leb-true, le-leb, eqb-true}
 use Rattle.texts.specs.Utf8.{within, tail, second3, second4, well_formed, after2, after3, after4}
-use Rattle.texts.specs.Characters.{Character, one, two, three, four, bytes, number, proper, all_proper, spelling, Text}
+use Rattle.texts.specs.Characters.{Character, one, two, three, four, bytes, number, proper, Text}
 use Rattle.texts.proofs.Leads.{lead1}
 use Rattle.texts.proofs.Spelled.{either, within_has, within_tells}
 

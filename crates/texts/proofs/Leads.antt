@@ -1,5 +1,5 @@
 -- What the definition of well-formed text says by the lead byte of a character, and behind it.
-use Rattle.std.proofs.Common.{◌≡◌, ℕ, ◌≤◌, true, false, ◌&&◌, List, ◌∷◌, ap, arith}
+use Rattle.std.proofs.Common.{◌≡◌, ℕ, ◌≤◌, true, false, List, ◌∷◌, ap, arith}
 use Rattle.std.proofs.lemmas.Bool.Decides.{nat_tests}
 use Rattle.texts.specs.Utf8.{tail, second3, second4, well_formed, after2, after3, after4}
 

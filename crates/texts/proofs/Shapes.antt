@@ -1,5 +1,5 @@
 -- What the definition of well-formed text says of a list that is known by its length and its first elements.
-use Rattle.std.proofs.Common.{◌≡◌, ℕ, ◌<◌, ◌≤◌, Bool, true, false, ◌&&◌, List, [], ◌∷◌, length, get_or, drop, Some, None, Option, ◌∙◌, arith, Bor, MatchOption}
+use Rattle.std.proofs.Common.{◌≡◌, ℕ, ◌<◌, ◌≤◌, Bool, true, false, List, [], ◌∷◌, length, get_or, drop, Some, None, Option, ◌∙◌, arith, Bor, MatchOption}
 use Rattle.texts.proofs.Leads.{lead1, lead2, lead3, lead4, past2, past3, past4}
 use Rattle.texts.specs.Utf8.{well_formed, after2, after3, after4, tail, second3, second4}
 

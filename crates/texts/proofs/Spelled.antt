@@ -1,8 +1,8 @@
 -- Characters one behind the other are UTF-8.
-use Rattle.std.proofs.Common.{◌≡◌, ℕ, ◌+◌, ◌*◌, ◌<◌, ◌≤◌, Bool, true, false, ◌&&◌, ◌||◌, eqb, leb, List, [], ◌∷◌, ◌++◌, sym, refl, ap, ◌∙◌, arith}
+use Rattle.std.proofs.Common.{◌≡◌, ℕ, ◌+◌, ◌*◌, ◌≤◌, Bool, true, false, ◌&&◌, ◌||◌, leb, List, [], ◌∷◌, ◌++◌, sym, refl, ap, ◌∙◌, arith}
 use Rattle.std.proofs.lemmas.Bool.{and_parts, leb-true, le-leb}
 use Rattle.std.proofs.lemmas.Bool.Decides.{nat_tests}
-use Rattle.texts.specs.Utf8.{within, tail, second3, second4, well_formed, after2, after3, after4}
+use Rattle.texts.specs.Utf8.{within, tail, second3, second4, well_formed}
 use Rattle.texts.proofs.Leads.{lead1, lead2, lead3, lead4, past2, past3, past4}
 use Rattle.texts.specs.Characters.{Character, one, two, three, four, bytes, number, proper, all_proper, spelling, Text}
 

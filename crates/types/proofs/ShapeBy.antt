@@ -1,12 +1,11 @@
 -- The shape of a type by its number.
-use Rattle.std.proofs.Common.{◌≡◌, ℕ, Bool, true, false, cond, eqb, List, Some, None, Option, sym, refl, ap, ◌∙◌}
+use Rattle.std.proofs.Common.{◌≡◌, ℕ, cond, eqb, List, Some, None, Option, sym, ap, ◌∙◌}
 use Rattle.std.proofs.lemmas.Bool.{ne_eqb}
 use Rattle.tables.specs.declared.Table.{Table}
 use Rattle.types.specs.declared.shapes.TableType.{TableType}
 use Rattle.types.specs.declared.shapes.Typed.{Typed}
-use Rattle.types.specs.declared.shapes.Shape.{Shape}
 use Rattle.types.specs.Choices.{beside}
-use Rattle.types.specs.Types.{plain_rows, table_types, plainly, unknown, or_plain, or_table, by_table, union_shape, map_shape, table_shape, shape_of}
+use Rattle.types.specs.Types.{plain_rows, table_types, plainly, or_plain, or_table, by_table, union_shape, map_shape, shape_of}
 
 module _ (bs : List ℕ) (f : Table) (n : ℕ) where
   pub shape_plain : (number : ℕ) (r : Typed) → Some r ≡ beside plain_rows number → Some (plainly r) ≡ shape_of bs f number n

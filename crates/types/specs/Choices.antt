@@ -1,5 +1,5 @@
 -- Looking up by a number.
-use Rattle.std.specs.Prelude.{ℕ, Bool, true, false, cond, ◌&&◌, List, [], ◌∷◌, ℤ, pos, negsuc, Some, None, Option, ◌==◌, nat_le}
+use Rattle.std.specs.Prelude.{ℕ, Bool, false, cond, ◌&&◌, List, [], ◌∷◌, ℤ, pos, negsuc, Some, None, Option, ◌==◌, nat_le}
 
 -- what stands beside a number in a list of pairs
 abbrev pub beside : {A : Type 0} → List (ℕ × A) → ℕ → Option A

@@ -1,4 +1,4 @@
-use Rattle.std.proofs.Common.{◌+◌, ◌^◌, ◌<◌, ◌≤◌, length, Some, sym, ap, ◌∙◌, arith, rules}
+use Rattle.std.proofs.Common.{◌+◌, ◌^◌, ◌<◌, length, Some, sym, ap, ◌∙◌, arith, rules}
 use Rattle.tables.proofs.Places.{place_in_lem, place_out, over}
 use Rattle.tables.proofs.place.Goals as goal
 

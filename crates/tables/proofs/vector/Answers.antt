@@ -1,4 +1,4 @@
-use Rattle.std.proofs.Common.{ap, ◌∙◌, arith, rules}
+use Rattle.std.proofs.Common.{ap, ◌∙◌}
 use Rattle.std.specs.Option.{option_map}
 use Rattle.tables.proofs.Places.{vector_none, vector_behind, vector_long, vector_made, vector_part}
 use Rattle.tables.proofs.vector.Goals as goal

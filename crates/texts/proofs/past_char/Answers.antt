@@ -1,4 +1,4 @@
-use Rattle.std.proofs.Common.{arith, rules}
+use Rattle.std.proofs.Common.{rules}
 use Rattle.std.proofs.lemmas.List.{take_rest}
 use Rattle.texts.proofs.Shapes.{first_at, lead2_at, lead3_at, lead4_at, carry}
 use Rattle.texts.proofs.past_char.Goals as goal

@@ -1,4 +1,4 @@
-use Rattle.std.proofs.Common.{arith, rules}
+use Rattle.std.proofs.Common.{rules}
 use Rattle.std.proofs.lemmas.List.{take_rest}
 use Rattle.texts.proofs.Shapes.{after4_at}
 use Rattle.texts.proofs.past_four.Goals as goal

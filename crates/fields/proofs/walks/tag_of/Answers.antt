@@ -1,4 +1,4 @@
-use Rattle.std.proofs.Common.{◌≡◌, ◌+◌, ◌*◌, ◌^◌, ◌<◌, length, unwrap_or, sym, ap, ◌∙◌, arith, rules}
+use Rattle.std.proofs.Common.{◌+◌, ◌*◌, ◌^◌, ◌<◌, length, unwrap_or, sym, ap, ◌∙◌, arith, rules}
 use Rattle.little.specs.Numbers.{number_at}
 use Rattle.fields.specs.Fields.{tag_of}
 use Rattle.fields.proofs.Held.{byte_or_0, byte_past}

@@ -1,4 +1,4 @@
-use Rattle.std.proofs.Common.{◌≡◌, Some, None, sym, refl, ap, ◌∙◌, rules}
+use Rattle.std.proofs.Common.{Some, None, sym, refl, ap, ◌∙◌, rules}
 use Rattle.std.specs.Option.{option_map}
 use Rattle.message.specs.Items.{nodes_in, buffers_in, counts_in}
 use Rattle.message.specs.Messages.{nodes_of, buffers_of, counts_of}

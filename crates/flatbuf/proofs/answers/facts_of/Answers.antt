@@ -1,4 +1,4 @@
-use Rattle.std.proofs.Common.{◌≡◌, Some, None, sym, ap, ◌∙◌, w16, w64, SFits, to_z, of_z, rules}
+use Rattle.std.proofs.Common.{Some, None, sym, ap, ◌∙◌, w16, w64, SFits, to_z, of_z, rules}
 use Rattle.std.proofs.lemmas.Int.{to_z-of_z}
 use Rattle.flatbuf.specs.Asked.{told_by}
 use Rattle.flatbuf.proofs.Told.{facts_by, headless}

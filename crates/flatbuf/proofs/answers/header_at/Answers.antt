@@ -1,4 +1,4 @@
-use Rattle.std.proofs.Common.{Some, None, sym, ap, ◌∙◌, w64, SFits, rules}
+use Rattle.std.proofs.Common.{◌∙◌, w64, SFits, rules}
 use Rattle.std.proofs.lemmas.Int.{to_z-of_z}
 use Rattle.fields.specs.Walks.{held}
 use Rattle.flatbuf.specs.Shown.{dictionary_in, parts_in}

@@ -1,4 +1,4 @@
-use Rattle.std.proofs.Common.{◌≡◌, sym, ap, ◌∙◌, w64, to_z, rules}
+use Rattle.std.proofs.Common.{ap, w64, to_z, rules}
 use Rattle.little.proofs.Spelled.{le8_at}
 use Rattle.message.proofs.items.signed_at.Goals as goal
 

@@ -1,4 +1,4 @@
-use Rattle.std.proofs.Common.{◌≡◌, ◌-◌, min, length, take, sym, ap, ◌∙◌, arith, length-take-le, rules}
+use Rattle.std.proofs.Common.{◌≡◌, ◌-◌, min, length, take, sym, ap, ◌∙◌, arith, length-take-le}
 use Rattle.fields.proofs.Held.{copied}
 use Rattle.fields.proofs.rows.Rows.copy_to.Goals as goal
 

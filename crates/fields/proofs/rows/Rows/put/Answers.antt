@@ -1,4 +1,4 @@
-use Rattle.std.proofs.Common.{◌<◌, ◌≤◌, length, arith, length-take-le, rules}
+use Rattle.std.proofs.Common.{◌<◌, arith, length-take-le, rules}
 use lib.Seq.{take-set-lt}
 use Rattle.fields.proofs.rows.Rows.put.Goals as goal
 
