@@ -162,11 +162,13 @@ impl FrameDecoder {
         Ok(None)
     }
 
-    // The first `got` bytes of an opening, whole or not.
-    fn opened(&mut self, bytes: [u8; 8], got: usize) -> Result<Option<Event>, Fault>
-        requires { got ≤ 8 }
-        ensures { Opened (take got bytes) self.old result self.new }
+    // The `got` bytes of an opening that are there and one more, whole or not.
+    fn opened(&mut self, mut bytes: [u8; 8], got: usize, b: u8) -> Result<Option<Event>, Fault>
+        requires { got < 8 }
+        ensures { Opened (take got bytes ++ b ∷ []) self.old result self.new }
     {
+        bytes[got] = b;
+        let got = got + 1;
         let (marked, number) = opening_in(&bytes[..got]);
         let Some(size) = number else {
             self.state = DecoderState::Header { bytes, got };
@@ -257,7 +259,8 @@ impl FrameDecoder {
         match (self.state, rest) {
             (DecoderState::Header { bytes, got }, [_, ..]) => {
                 let (bytes, used) = fill_opening(bytes, got, rest);
-                let event = self.opened(bytes, got + used)?;
+                let last = got + used - 1;
+                let event = self.opened(bytes, last, bytes[last])?;
                 Ok(Step { used, event })
             }
             (DecoderState::Message { marked, size, got }, _) => {
