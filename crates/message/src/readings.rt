@@ -58,13 +58,46 @@ pub trait Reading {
     // The other lists at once: each puts its items at the front of a table, as many as there are and it has room for, and
     // answers how many.
     fn nodes(&self, bytes: &[u8], table: &mut [Node]) -> usize
-        ensures { Lays (nodes_of (meaning self.now bytes.now)) table.old result table.new };
+        ensures { Lays (nodes_of (meaning self.now bytes.now)) table.old result table.new }
+    {
+        let mut n = 0;
+        while n < table.len() {
+            match self.node(bytes, n) {
+                Some(node) => table[n] = node,
+                None => break,
+            }
+            n += 1;
+        }
+        n
+    }
 
     fn buffers(&self, bytes: &[u8], table: &mut [Buffer]) -> usize
-        ensures { Lays (buffers_of (meaning self.now bytes.now)) table.old result table.new };
+        ensures { Lays (buffers_of (meaning self.now bytes.now)) table.old result table.new }
+    {
+        let mut n = 0;
+        while n < table.len() {
+            match self.buffer(bytes, n) {
+                Some(buffer) => table[n] = buffer,
+                None => break,
+            }
+            n += 1;
+        }
+        n
+    }
 
     fn counts(&self, bytes: &[u8], table: &mut [i64]) -> usize
-        ensures { Lays (counts_of (meaning self.now bytes.now)) table.old result table.new };
+        ensures { Lays (counts_of (meaning self.now bytes.now)) table.old result table.new }
+    {
+        let mut n = 0;
+        while n < table.len() {
+            match self.count(bytes, n) {
+                Some(count) => table[n] = count,
+                None => break,
+            }
+            n += 1;
+        }
+        n
+    }
 
     // Nodes, buffers and counts together.
     fn lists(
