@@ -27,8 +27,8 @@ opening_acted g c =
     let most = opening_bounds (marks (take got bytes)) in
     let last = got + n - 1 in
     let all : take (got + n) c.fill_opening-used.result.0 ≡ take last c.fill_opening-used.result.0 ++ get_or c.fill_opening-used.result.0 last 0 ∷ [] =
-        let i : got + n ≡ last + 1 = omega arith in
-        ap (λ k. take k c.fill_opening-used.result.0) i ∙ take_more c.fill_opening-used.result.0 last 0 (omega (arith, most.0, most.1)) in
+    let i : got + n ≡ last + 1 = omega arith in
+    ap (λ k. take k c.fill_opening-used.result.0) i ∙ take_more c.fill_opening-used.result.0 last 0 (omega (arith, most.0, most.1)) in
     rw (← all) (opening_turn (λ bs. facts_of (g.R.Reading.meaning c.args.reading.now bs)) c.args.self.now c.args.metadata.now c.args.body.now c.args.rest.now bytes c.fill_opening-used.result.0 got n c.in-Header-len1-up.is-0 fits (omega arith) (omega arith) (omega arith) c.fill_opening-used.ensures.front)
 
 -- bytes of metadata
