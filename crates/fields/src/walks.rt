@@ -44,7 +44,7 @@ fn row_of(of: Typed, tag: u8, id: i64, end: usize) -> Row
 }
 
 // Fields, one after the other: each whole before the next.
-#[cycle(read_children_read_field_read_indexed_read_plain)]
+#[cycle(walk)]
 fn read_children(
     bytes: &[u8],
     children: Children,
@@ -62,7 +62,7 @@ fn read_children(
 }
 
 // The field at a place, with what is below it.
-#[cycle(read_children_read_field_read_indexed_read_plain)]
+#[cycle(walk)]
 fn read_field(bytes: &[u8], at: usize, tag: u8, depth: u8, rows: &mut Rows) -> Option<()>
     ensures { Reads (walk_at depth bytes.now (length (held rows.old)) at tag) result (held rows.old) (held rows.new) }
 {
@@ -82,7 +82,7 @@ fn read_field(bytes: &[u8], at: usize, tag: u8, depth: u8, rows: &mut Rows) -> O
 }
 
 // A field without a dictionary: its own row, and its children's.
-#[cycle(read_children_read_field_read_indexed_read_plain)]
+#[cycle(walk)]
 fn read_plain(bytes: &[u8], field: Field, tag: u8, depth: u8, rows: &mut Rows) -> Option<()>
     ensures { Reads (option_map (plain_rows (length (held rows.old)) tag field.shape.row) (kids_of (walk_at depth bytes.now) bytes.now field (length (held rows.old) + 1))) result (held rows.old) (held rows.new) }
 {
@@ -95,7 +95,7 @@ fn read_plain(bytes: &[u8], field: Field, tag: u8, depth: u8, rows: &mut Rows) -
 }
 
 // A dictionary field: the row of its indices, the row of its values, and their children's.
-#[cycle(read_children_read_field_read_indexed_read_plain)]
+#[cycle(walk)]
 fn read_indexed(
     bytes: &[u8],
     field: Field,

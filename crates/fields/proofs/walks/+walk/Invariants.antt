@@ -2,7 +2,7 @@ use Rattle.std.proofs.Common.{◌≡◌, ◌+◌, ◌-◌, ◌*◌, List, ◌++�
 use Rattle.std.specs.Option.{option_map}
 use Rattle.message.specs.declared.rows.Row.{Row}
 use Rattle.fields.specs.Walks.{child_rows, held, walk_at}
-use Rattle.fields.proofs.walks.+read_children_read_field_read_indexed_read_plain.Given as goal
+use Rattle.fields.proofs.walks.+walk.Given as goal
 
 abbrev pub decreases-read_children : goal.decreases-read_children
 decreases-read_children l = 3 * l.depth + 2

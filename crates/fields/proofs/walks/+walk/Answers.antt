@@ -2,7 +2,7 @@ use Rattle.std.proofs.Common.{length, ap, ◌∙◌, arith, w64, SFits, rules}
 use Rattle.std.proofs.lemmas.Int.{to_z-of_z}
 use Rattle.fields.specs.Walks.{walk_at, held, kids_of, row_of}
 use Rattle.fields.proofs.Walked.{refused, no_item, field_over, field_read, all_read, walk_none, walk_no_field, walk_plain, walk_flat, walk_indexed, reads_as, plain_over, plain_read, kept_there, indexed_over, indexed_full, indexed_read, both_there, put_there}
-use Rattle.fields.proofs.walks.+read_children_read_field_read_indexed_read_plain.Goals as goal
+use Rattle.fields.proofs.walks.+walk.Goals as goal
 
 pub read_children-returns-in_err-at : goal.read_children-returns-in_err-at
 read_children-returns-in_err-at t c =
