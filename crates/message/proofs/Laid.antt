@@ -31,6 +31,9 @@ laying_more items before table n x l h e =
     let p = nth_some items n x e in
     record { is = ap (λ s. set s n x) l.is ∙ laid_more n items before x h p.0 p.1; some = omega arith; room = omega arith }
 
--- no item is left
+-- no item is left, or no room
 pub laying_none : {A : Type 0} (items before table : List A) (n : ℕ) → Laying items before n table → None ≡ slice_get items n → Lays items before n table
 laying_none items before table n l e = let k = nth_none items n e in record { count = omega arith; table = l.is }
+
+pub laying_full : {A : Type 0} (items before table : List A) (n : ℕ) → Laying items before n table → length before ≤ n → Lays items before n table
+laying_full items before table n l k = record { count = omega arith; table = l.is }

@@ -1,6 +1,6 @@
 -- Lists of items that stand one after the other.
-use Rattle.std.specs.Prelude.{◌≡◌, ℕ, ◌*◌, ◌/◌, min, List, ◌++◌, map, length, take, drop}
-use Rattle.std.specs.List.{range_with_len}
+use Rattle.std.specs.Prelude.{◌≡◌, ℕ, ◌*◌, ◌/◌, ◌^◌, ◌<◌, min, List, ◌++◌, map, length, take, drop, Option}
+use Rattle.std.specs.List.{range_with_len, slice_get}
 
 -- the items of so many bytes each that fill a part of the bytes
 unfoldable pub listed : {A : Type 0} → ℕ → (List ℕ → ℕ → A) → List ℕ → List A
@@ -14,3 +14,7 @@ laid n items table = take n items ++ drop n table
 pub record Lays {A : Type 0} (items before : List A) (n : ℕ) (after : List A) : Type 0 where
   pub count : n ≡ min (length items) (length before)
   pub table : after ≡ laid n items before
+
+-- what is answered for a number is the item of that number
+abbrev pub TellsItems : {A : Type 0} → (ℕ → Option A → Type 0) → List A → Type 0
+TellsItems {A = A} answers items = (k : ℕ) → k < 2 ^ 64 → (r : Option A) → answers k r → r ≡ slice_get items k

@@ -1,7 +1,7 @@
 // Lists by their items.
 ghost use Rattle.std.specs.Prelude.{◌≡◌, List};
 ghost use Rattle.message.specs.Items.{nodes_in, buffers_in, counts_in};
-ghost use Rattle.message.specs.Listed.{Lays};
+ghost use Rattle.message.specs.Listed.{Lays, TellsItems};
 ghost use Rattle.std.specs.List.{slice_get};
 
 use crate::items::{Buffer, Node, buffer_in, count_in, node_in};
@@ -19,16 +19,25 @@ pub trait ItemList {
     fn copy_to(&self, table: &mut [Self::Item]) -> usize
         ensures { Lays (items self.now) table.old result table.new }
     {
-        let mut n = 0;
-        while n < table.len() {
-            match self.get(n) {
-                Some(item) => table[n] = item,
-                None => break,
-            }
-            n += 1;
-        }
-        n
+        lay(table, |k| self.get(k))
     }
+}
+
+// Puts what is answered for 0, 1 and on at the front of a table, as long as there is something and it has room, and
+// answers how many.
+pub(crate) fn lay<T: Copy, F: Fn(usize) -> Option<T>>(table: &mut [T], item: F) -> usize
+    requires { F.IsAlwaysCallable item }
+    ensures { (items : List T) → TellsItems (F.post item) items → Lays items table.old result table.new }
+{
+    let mut n = 0;
+    while n < table.len() {
+        match item(n) {
+            Some(item) => table[n] = item,
+            None => break,
+        }
+        n += 1;
+    }
+    n
 }
 
 // A list of nodes, as the bytes that it fills.

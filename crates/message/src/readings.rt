@@ -6,6 +6,7 @@ ghost use Rattle.std.specs.List.{slice_get};
 
 use crate::headers::Facts;
 use crate::items::{Buffer, Node};
+use crate::lists::lay;
 use crate::rows::Row;
 
 // The bytes are not metadata of this form.
@@ -60,43 +61,19 @@ pub trait Reading {
     fn nodes(&self, bytes: &[u8], table: &mut [Node]) -> usize
         ensures { Lays (nodes_of (meaning self.now bytes.now)) table.old result table.new }
     {
-        let mut n = 0;
-        while n < table.len() {
-            match self.node(bytes, n) {
-                Some(node) => table[n] = node,
-                None => break,
-            }
-            n += 1;
-        }
-        n
+        lay(table, |k| self.node(bytes, k))
     }
 
     fn buffers(&self, bytes: &[u8], table: &mut [Buffer]) -> usize
         ensures { Lays (buffers_of (meaning self.now bytes.now)) table.old result table.new }
     {
-        let mut n = 0;
-        while n < table.len() {
-            match self.buffer(bytes, n) {
-                Some(buffer) => table[n] = buffer,
-                None => break,
-            }
-            n += 1;
-        }
-        n
+        lay(table, |k| self.buffer(bytes, k))
     }
 
     fn counts(&self, bytes: &[u8], table: &mut [i64]) -> usize
         ensures { Lays (counts_of (meaning self.now bytes.now)) table.old result table.new }
     {
-        let mut n = 0;
-        while n < table.len() {
-            match self.count(bytes, n) {
-                Some(count) => table[n] = count,
-                None => break,
-            }
-            n += 1;
-        }
-        n
+        lay(table, |k| self.count(bytes, k))
     }
 
     // Nodes, buffers and counts together.
