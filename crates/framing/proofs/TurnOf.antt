@@ -1,6 +1,6 @@
 -- One turn of a decoder, way by way.
-use Rattle.std.proofs.Common.{◌≡◌, ℕ, ◌+◌, ◌<◌, ◌≤◌, max, Bool, List, [], ◌∷◌, ◌++◌, length, get_or, take, drop, Some, None, Ok, Err, Option, sym, refl, ap, ◌∙◌, subst, inl, inr, arith, lit<, take-append-drop}
-use Rattle.std.proofs.lemmas.List.{length-take-le}
+use Rattle.std.proofs.Common.{◌≡◌, ℕ, ◌+◌, ◌-◌, ◌<◌, ◌≤◌, max, Bool, List, [], ◌∷◌, ◌++◌, length, get_or, take, drop, Some, None, Ok, Err, Option, sym, refl, ap, ◌∙◌, subst, inl, inr, arith, lit<, take-append-drop}
+use Rattle.std.proofs.lemmas.List.{append_assoc, length-take-le, take_more, take-take}
 use Rattle.std.proofs.lemmas.Bool.{cases_lt}
 use Rattle.message.specs.declared.faults.Fault.{Fault}
 use Rattle.message.specs.declared.faults.Place.{Place}
@@ -69,16 +69,22 @@ opening_goes e d rest got n some within fits =
           ap (goes (step (holds_of d) e) (header d.place got)) one ∙ opening_byte (holds_of d) e d.place got (get_or rest 0 0) ∙ ap (λ xs. went_on [] quiet (opened (holds_of d) d.place (got ++ xs))) (sym one)
     ]
 
+-- all bytes but the last, and the last
+pub front_last : (front got rest : List ℕ) (n : ℕ) → n + 1 ≤ length rest → front ≡ got ++ take n (take (length rest - 1) rest) → front ++ get_or rest n 0 ∷ [] ≡ got ++ take (n + 1) rest
+front_last front got rest n within is =
+    let e : front ≡ got ++ take n rest = is ∙ ap (λ l. got ++ l) (take-take n (length rest - 1) rest (omega arith)) in
+    ap (λ l. l ++ get_or rest n 0 ∷ []) e ∙ append_assoc got (take n rest) (get_or rest n 0 ∷ []) ∙ ap (λ l. got ++ l) (sym (take_more rest n 0 (omega arith)))
+
 -- some of the opening, or all
-pub opening_turn : (e : Envelope) (d : FrameDecoder) (m b rest bytes bytes' : List ℕ) (got n : ℕ) → d.state ≡ Header bytes got → got ≤ length bytes → 0 < n → n ≤ length rest → got + n ≤ max (opening (marks (take got bytes))) (got + 1) → take (got + n) bytes' ≡ take got bytes ++ take n rest → Acted e d m b rest n (opened (holds_of d) d.place (take (got + n) bytes'))
-opening_turn e d m b rest bytes bytes' got n is room some within fits front =
+pub opening_turn : (e : Envelope) (d : FrameDecoder) (m b rest bytes front : List ℕ) (got n : ℕ) → d.state ≡ Header bytes got → got ≤ length bytes → 0 < n → n ≤ length rest → got + n ≤ max (opening (marks (take got bytes))) (got + 1) → front ≡ take got bytes ++ take n rest → Acted e d m b rest n (opened (holds_of d) d.place front)
+opening_turn e d m b rest bytes front got n is room some within fits all =
     let k : length (take got bytes) ≡ got = length-take-le got bytes room in
     record {
       stand = header d.place (take got bytes);
       is = stand_at d m b (Header bytes got) is;
       live = tt;
-      acts = opening_goes e d rest (take got bytes) n some within (omega arith) ∙ ap (λ l. went_on [] quiet (opened (holds_of d) d.place l)) (sym front);
-      stops = opened_stops (holds_of d) d.place (take (got + n) bytes');
+      acts = opening_goes e d rest (take got bytes) n some within (omega arith) ∙ ap (λ l. went_on [] quiet (opened (holds_of d) d.place l)) (sym all);
+      stops = opened_stops (holds_of d) d.place front;
       within = within;
       some = λ _. some;
     }

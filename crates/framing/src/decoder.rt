@@ -1,5 +1,5 @@
 // The calls of a decoder of frames.
-ghost use Rattle.std.specs.Prelude.{◌≡◌, ◌+◌, ◌<◌, ◌≤◌, max, [], ◌∷◌, ◌++◌, length, take};
+ghost use Rattle.std.specs.Prelude.{◌≡◌, ◌+◌, ◌-◌, ◌<◌, ◌≤◌, max, [], ◌∷◌, ◌++◌, length, take};
 ghost use Rattle.message.specs.Messages.{facts_of};
 ghost use Rattle.framing.specs.Frames.{at_most, behind, marks, opening};
 ghost use Rattle.framing.specs.Runs.{Opens};
@@ -59,14 +59,15 @@ fn fill(hold: &mut [u8], got: usize, most: usize, rest: &[u8]) -> usize
     n
 }
 
-// Bytes of the rest go behind the `got` of an opening that are there, as many as are known to belong to it.
+// All but the last of the bytes that are known to belong to an opening go behind the `got` that are there.
 fn fill_opening(mut bytes: [u8; 8], got: usize, rest: &[u8]) -> ([u8; 8], usize)
-    requires { got < 8 }
-    ensures { Fills bytes got (max (opening (marks (take got bytes))) (got + 1)) rest.now result.1 result.0 }
+    requires got { got < 8 }
+    requires some { 0 < length rest.now }
+    ensures { Fills bytes got (max (opening (marks (take got bytes))) (got + 1) - 1) (take (length rest.now - 1) rest.now) result.1 result.0 }
 {
     let (marked, _) = opening_in(&bytes[..got]);
-    let end = opening(marked).max(got + 1);
-    let used = fill(&mut bytes, got, end, rest);
+    let last = opening(marked).max(got + 1) - 1;
+    let used = fill(&mut bytes, got, last, &rest[..rest.len() - 1]);
     (bytes, used)
 }
 
@@ -259,9 +260,11 @@ impl FrameDecoder {
         match (self.state, rest) {
             (DecoderState::Header { bytes, got }, [_, ..]) => {
                 let (bytes, used) = fill_opening(bytes, got, rest);
-                let last = got + used - 1;
-                let event = self.opened(bytes, last, bytes[last])?;
-                Ok(Step { used, event })
+                let event = self.opened(bytes, got + used, rest[used])?;
+                Ok(Step {
+                    used: used + 1,
+                    event,
+                })
             }
             (DecoderState::Message { marked, size, got }, _) => {
                 let used = fill(metadata, got, size, rest);

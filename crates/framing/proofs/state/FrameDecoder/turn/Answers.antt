@@ -1,35 +1,31 @@
 use Rattle.std.proofs.Common.{◌≡◌, ◌+◌, ◌-◌, ◌<◌, ◌≤◌, min, max, [], ◌∷◌, ◌++◌, length, get_or, take, ap, ◌∙◌, arith, rules}
-use Rattle.std.proofs.lemmas.List.{nil_from_length, take_more}
+use Rattle.std.proofs.lemmas.List.{nil_from_length, length-take-le}
 use Rattle.std.proofs.lemmas.Result.{err_from_is_err_and}
 use Rattle.message.specs.Messages.{facts_of}
 use Rattle.framing.specs.Within.{opens, room, reach, held, spans, fills}
 use Rattle.framing.specs.Frames.{Envelope, marks, opening}
 use Rattle.framing.specs.Steps.{opened, gathered}
 use Rattle.framing.specs.Views.{holds_of}
-use Rattle.framing.proofs.Fills.{opening_bounds}
-use Rattle.framing.proofs.TurnOf.{Acted, turn_ok, turn_err, opening_turn, metadata_turn, body_turn, behind_end, no_byte}
+use Rattle.framing.proofs.TurnOf.{Acted, front_last, turn_ok, turn_err, opening_turn, metadata_turn, body_turn, behind_end, no_byte}
 use Rattle.framing.proofs.state.FrameDecoder.turn.Given as given
 use Rattle.framing.proofs.state.FrameDecoder.turn.Goals as goal
 use Rattle.framing.proofs.state.FrameDecoder.turn.Goals.{After-opened, After-gathered}
 
 -- bytes of an opening: all but the last, and the last
-opening_acted : (g : given.Over) (c : After-opened g) → Acted (λ bs. facts_of (g.R.Reading.meaning c.args.reading.now bs)) c.args.self.now c.args.metadata.now c.args.body.now c.args.rest.now c.fill_opening-used.result.1 (opened (holds_of c.args.self.now) c.args.self.now.place (take (c.in-Header-len1-up.got + c.fill_opening-used.result.1 - 1) c.fill_opening-used.result.0 ++ get_or c.fill_opening-used.result.0 (c.in-Header-len1-up.got + c.fill_opening-used.result.1 - 1) 0 ∷ []))
+opening_acted : (g : given.Over) (c : After-opened g) → Acted (λ bs. facts_of (g.R.Reading.meaning c.args.reading.now bs)) c.args.self.now c.args.metadata.now c.args.body.now c.args.rest.now (c.fill_opening-used.result.1 + 1) (opened (holds_of c.args.self.now) c.args.self.now.place (take (c.in-Header-len1-up.got + c.fill_opening-used.result.1) c.fill_opening-used.result.0 ++ get_or c.args.rest.now c.fill_opening-used.result.1 0 ∷ []))
 opening_acted g c =
     let bytes = c.in-Header-len1-up.bytes in
     let got = c.in-Header-len1-up.got in
     let n = c.fill_opening-used.result.1 in
+    let rest = c.args.rest.now in
     let o = ap opens c.in-Header-len1-up.is-0 in
     let r = ap room c.in-Header-len1-up.is-0 in
-    let some : 0 < length c.args.rest.now = search rules in
-    let m : n ≡ min (max (opening (marks (take got bytes))) (got + 1) - got) (length c.args.rest.now) = c.fill_opening-used.ensures.count in
-    let fits : got ≤ length bytes = omega (arith, c.args.self.now.bytes) in
-    let eight : length c.fill_opening-used.result.0 ≡ 8 = search rules in
-    let most = opening_bounds (marks (take got bytes)) in
-    let last = got + n - 1 in
-    let all : take (got + n) c.fill_opening-used.result.0 ≡ take last c.fill_opening-used.result.0 ++ get_or c.fill_opening-used.result.0 last 0 ∷ [] =
-    let i : got + n ≡ last + 1 = omega arith in
-    ap (λ k. take k c.fill_opening-used.result.0) i ∙ take_more c.fill_opening-used.result.0 last 0 (omega (arith, most.0, most.1)) in
-    rw (← all) (opening_turn (λ bs. facts_of (g.R.Reading.meaning c.args.reading.now bs)) c.args.self.now c.args.metadata.now c.args.body.now c.args.rest.now bytes c.fill_opening-used.result.0 got n c.in-Header-len1-up.is-0 fits (omega arith) (omega arith) (omega arith) c.fill_opening-used.ensures.front)
+    let some : 0 < length rest = search rules in
+    let before : length (take (length rest - 1) rest) ≡ length rest - 1 = length-take-le (length rest - 1) rest (omega arith) in
+    let m : n ≡ min (max (opening (marks (take got bytes))) (got + 1) - 1 - got) (length (take (length rest - 1) rest)) = c.fill_opening-used.ensures.count in
+    let there : got ≤ length bytes = omega (arith, c.args.self.now.bytes) in
+    let all = front_last (take (got + n) c.fill_opening-used.result.0) (take got bytes) rest n (omega arith) c.fill_opening-used.ensures.front in
+    opening_turn (λ bs. facts_of (g.R.Reading.meaning c.args.reading.now bs)) c.args.self.now c.args.metadata.now c.args.body.now rest bytes _ got (n + 1) c.in-Header-len1-up.is-0 there (omega arith) (omega arith) (omega arith) all
 
 -- bytes of metadata
 metadata_acted : (g : given.Over) (c : After-gathered g) → Acted (λ bs. facts_of (g.R.Reading.meaning c.args.reading.now bs)) c.args.self.now c.args.metadata.now c.args.body.now c.args.rest.now c.fill-used.result (gathered (holds_of c.args.self.now) (λ bs. facts_of (g.R.Reading.meaning c.args.reading.now bs)) c.args.self.now.place c.in-Message-default.marked c.in-Message-default.size (take (c.in-Message-default.got + c.fill-used.result) c.fill-used.new.hold))
@@ -47,7 +43,7 @@ metadata_acted g c =
 pub returns-in_err-event-in-Header-len1-up : goal.returns-in_err-event-in-Header-len1-up
 returns-in_err-event-in-Header-len1-up g c =
     let p = err_from_is_err_and c.from_residual.result c.from_residual.ensures.1 in
-    rw (p.1, p.2) (turn_err (λ bs. facts_of (g.R.Reading.meaning c.args.reading.now bs)) c.args.self.now c.opened.new.self c.args.metadata.now c.args.body.now c.args.metadata.now c.args.body.now c.args.rest.now c.fill_opening-used.result.1 _ (opening_acted g (goal.at.returns-in_err-event-in-Header-len1-up g c).After-opened) c.in_err-event-in-Header-len1-up.field-0.0 (c.in_err-event-in-Header-len1-up.ensures c.args.metadata.now c.args.body.now))
+    rw (p.1, p.2) (turn_err (λ bs. facts_of (g.R.Reading.meaning c.args.reading.now bs)) c.args.self.now c.opened.new.self c.args.metadata.now c.args.body.now c.args.metadata.now c.args.body.now c.args.rest.now (c.fill_opening-used.result.1 + 1) _ (opening_acted g (goal.at.returns-in_err-event-in-Header-len1-up g c).After-opened) c.in_err-event-in-Header-len1-up.field-0.0 (c.in_err-event-in-Header-len1-up.ensures c.args.metadata.now c.args.body.now))
 
 pub returns-in_err-event-in-Message-default : goal.returns-in_err-event-in-Message-default
 returns-in_err-event-in-Message-default g c =
@@ -56,7 +52,7 @@ returns-in_err-event-in-Message-default g c =
 
 pub returns-in_ok-event-in-Header-len1-up : goal.returns-in_ok-event-in-Header-len1-up
 returns-in_ok-event-in-Header-len1-up g c =
-    turn_ok (λ bs. facts_of (g.R.Reading.meaning c.args.reading.now bs)) c.args.self.now c.opened.new.self c.args.metadata.now c.args.body.now c.args.metadata.now c.args.body.now c.args.rest.now c.fill_opening-used.result.1 _ (opening_acted g (goal.at.returns-in_ok-event-in-Header-len1-up g c).After-opened) c.in_ok-event-in-Header-len1-up.event (c.in_ok-event-in-Header-len1-up.ensures c.args.metadata.now c.args.body.now)
+    turn_ok (λ bs. facts_of (g.R.Reading.meaning c.args.reading.now bs)) c.args.self.now c.opened.new.self c.args.metadata.now c.args.body.now c.args.metadata.now c.args.body.now c.args.rest.now (c.fill_opening-used.result.1 + 1) _ (opening_acted g (goal.at.returns-in_ok-event-in-Header-len1-up g c).After-opened) c.in_ok-event-in-Header-len1-up.event (c.in_ok-event-in-Header-len1-up.ensures c.args.metadata.now c.args.body.now)
 
 pub returns-in_ok-event-in-Message-default : goal.returns-in_ok-event-in-Message-default
 returns-in_ok-event-in-Message-default g c =
