@@ -12,7 +12,7 @@ use Rattle.feeds.specs.Messages.{Batch}
 use Rattle.feeds.specs.Streams.{Meaning, Told}
 use Rattle.feeds.specs.Calls.{Memories, Own, Feed, Fed, Feeds, barely, place_in, cell_of, Cells, finish_of, row_in}
 
--- a question with its answer: what changes neither the feed nor its memories; pieceOther and cellOther are a piece and
+-- a question with its answer: what changes neither the feed nor its memories; piece_other and cell_other are a piece and
 -- a cell with memories of other lengths
 pub data Question : Type 0 where
   piece_other : List ℕ → Result Fed Fault → Question
