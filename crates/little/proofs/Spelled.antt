@@ -1,33 +1,17 @@
 -- What bytes spell, byte by byte.
-use Rattle.std.proofs.Common.{◌≡◌, ℕ, suc, ◌+◌, ◌*◌, ◌<◌, ◌≤◌, List, [], ◌∷◌, length, get_or, take, drop, Some, None, sym, refl, ap, ◌∙◌, arith, length-drop, to_z}
-use Rattle.std.proofs.lemmas.List.{drop_more}
-use Rattle.std.proofs.lemmas.Bool.{le-leb, lt-leb}
+use Rattle.std.proofs.Common.{◌≡◌, ℕ, suc, ◌+◌, ◌*◌, ◌<◌, ◌≤◌, Bool, true, false, nat_le, List, length, get_or, slice_index, take, drop, Some, None, Option, ℤ, MatchOption, IsSomeAnd, sym, refl, ap, ◌∙◌, arith, length-drop, to_z, w16, w32, w64}
+use Rattle.std.specs.Borrow.{Bor}
+use Rattle.std.specs.Int.{from_le_bytes}
+use Rattle.std.specs.Slice.{IsItemAt}
+use Rattle.std.proofs.lemmas.List.{drop_more, at_drop_all, length-take-le}
+use Rattle.std.proofs.lemmas.Bool.{lt-leb, leb-true}
 use mir.Syntax.{Width}
-use Rattle.std.specs.Option.{option_map}
-use Rattle.little.specs.Numbers.{le, number_in, inside, number_at, signed_at}
-
--- one byte, and the number that the others spell
-pub le_more : (n : ℕ) (ys : List ℕ) → 0 < length ys → le (take (suc n) ys) ≡ get_or ys 0 0 + 256 * le (take n (drop 1 ys))
-le_more n [] h = absurd (omega arith)
-le_more n (y ∷ ys) h = refl
-
-pub number_inside : (n : ℕ) (bs : List ℕ) (at : ℕ) → at + n ≤ length bs → number_at n bs at ≡ Some (number_in n bs at)
-unfolding number_at
-number_inside n bs at h = rw (le-leb (at + n) (length bs) h, inside)
+use Rattle.std.specs.Option.{option_map, option_copied}
+use Rattle.little.specs.Numbers.{le, number_in, inside, number_at, signed_at, number_inside}
 
 pub number_outside : (n : ℕ) (bs : List ℕ) (at : ℕ) → length bs < at + n → number_at n bs at ≡ None
 unfolding number_at
 number_outside n bs at h = rw (lt-leb (at + n) (length bs) h, inside)
-
--- the number at the front of what begins at a place
-pub number_front : (n : ℕ) (bs : List ℕ) (at v : ℕ) → at ≤ length bs → n ≤ length (drop at bs) → v ≡ le (take n (drop at bs)) → Some v ≡ number_at n bs at
-unfolding number_in
-number_front n bs at v p h e =
-    let k : at + n ≤ length bs = omega (arith, length-drop at bs) in
-    ap Some e ∙ sym (number_inside n bs at k)
-
-pub number_short : (n : ℕ) (bs : List ℕ) (at : ℕ) → length (drop at bs) < n → number_at n bs at ≡ None
-number_short n bs at h = number_outside n bs at (omega (arith, length-drop at bs))
 
 -- the bytes of a number by their places
 pub le_places : (n : ℕ) (ys : List ℕ) (i : ℕ) → i < length ys → le (take (suc n) (drop i ys)) ≡ get_or ys i 0 + 256 * le (take n (drop (i + 1) ys))
@@ -37,14 +21,53 @@ pub byte_inside : (bs : List ℕ) (at : ℕ) → at < length bs → number_at 1 
 unfolding number_in
 byte_inside bs at h = number_inside 1 bs at (omega arith) ∙ ap Some (le_places 0 bs at h ∙ omega arith)
 
-pub signed_inside : (w : Width) (n : ℕ) (bs : List ℕ) (at : ℕ) → at + n ≤ length bs → signed_at w n bs at ≡ Some (to_z w (number_in n bs at))
-signed_inside w n bs at h = ap (option_map (to_z w)) (number_inside n bs at h)
+-- what is made of the bytes at a place, where they are there
+pub made_inside : {A : Type 0} (n : ℕ) (bs : List ℕ) (at : ℕ) (f : List ℕ → A) (v : A) (o : Option (List ℕ)) (r : Option A) → o ≡ inside n bs at (take n (drop at bs)) → MatchOption o (r ≡ None) (λ x. IsSomeAnd r (λ y. y ≡ f x)) → (at + n ≤ length bs → f (take n (drop at bs)) ≡ v) → r ≡ inside n bs at v
+made_inside n bs at f v o r e m k = by (nat_le (at + n) (length bs)) refl o r e m where
+  by : (b : Bool) → nat_le (at + n) (length bs) ≡ b → (o : Option (List ℕ)) (r : Option _) → o ≡ elim b [ true ↦ Some (take n (drop at bs)) | false ↦ None ] → MatchOption o (r ≡ None) (λ x. IsSomeAnd r (λ y. y ≡ f x)) → r ≡ elim b [ true ↦ Some v | false ↦ None ]
+  by true t None r e m = let z : ◌≡◌ {A = ℕ} 0 1 = cc in absurd (omega arith)
+  by true t (Some x) None e m = absurd m
+  by true t (Some x) (Some y) e m = let h = k (leb-true (at + n) (length bs) t) in cc
+  by false t None r e m = m
+  by false t (Some x) r e m = let z : ◌≡◌ {A = ℕ} 0 1 = cc in absurd (omega arith)
 
--- the eight bytes of a number by their places
-pub le8_at : (bs : List ℕ) (i : ℕ) → i + 8 ≤ length bs → number_in 8 bs i ≡ get_or bs i 0 + get_or bs (i + 1) 0 * 256 + get_or bs (i + 2) 0 * 65536 + get_or bs (i + 3) 0 * 16777216 + get_or bs (i + 4) 0 * 4294967296 + get_or bs (i + 5) 0 * 1099511627776 + get_or bs (i + 6) 0 * 281474976710656 + get_or bs (i + 7) 0 * 72057594037927936
-unfolding number_in
-le8_at bs i h =
-    let next : (n k : ℕ) → k < 8 → le (take (suc n) (drop (i + k) bs)) ≡ get_or bs (i + k) 0 + 256 * le (take n (drop (i + (k + 1)) bs)) = λ n k l.
-    let e : i + k + 1 ≡ i + (k + 1) = omega arith in
-    le_places n bs (i + k) (omega arith) ∙ ap (λ j. get_or bs (i + k) 0 + 256 * le (take n (drop j bs))) e in
-    omega (arith, le_places 7 bs i (omega arith), next 6 1 (omega arith), next 5 2 (omega arith), next 4 3 (omega arith), next 3 4 (omega arith), next 2 5 (omega arith), next 1 6 (omega arith), next 0 7 (omega arith))
+-- the bytes of a number one after the other, and none behind the last
+pub le_more_at : (ys : List ℕ) (i : ℕ) → i < length ys → le (drop i ys) ≡ slice_index ys i + 256 * le (drop (i + 1) ys)
+le_more_at ys i h = ap le (drop_more ys i 0 h)
+
+pub le_end : (ys : List ℕ) (n : ℕ) → length ys ≡ n → le (drop n ys) ≡ 0
+le_end ys n h = at_drop_all le ys n (omega arith)
+
+-- the library's numbers of 2, 4 and 8 bytes are those that the bytes spell
+pub from_le_2 : (ys : List ℕ) → length ys ≡ 2 → from_le_bytes w16 ys ≡ le ys
+from_le_2 ys h = omega (arith, h, le_more_at ys 0 (omega arith), le_more_at ys 1 (omega arith), le_end ys 2 h)
+
+pub from_le_4 : (ys : List ℕ) → length ys ≡ 4 → from_le_bytes w32 ys ≡ le ys
+from_le_4 ys h = omega (arith, h, le_more_at ys 0 (omega arith), le_more_at ys 1 (omega arith), le_more_at ys 2 (omega arith), le_more_at ys 3 (omega arith), le_end ys 4 h)
+
+pub from_le_8 : (ys : List ℕ) → length ys ≡ 8 → from_le_bytes w64 ys ≡ le ys
+from_le_8 ys h = omega (arith, h, le_more_at ys 0 (omega arith), le_more_at ys 1 (omega arith), le_more_at ys 2 (omega arith), le_more_at ys 3 (omega arith), le_more_at ys 4 (omega arith), le_more_at ys 5 (omega arith), le_more_at ys 6 (omega arith), le_more_at ys 7 (omega arith), le_end ys 8 h)
+
+module _ (n : ℕ) (bs : List ℕ) (at : ℕ) (f : List ℕ → ℕ) (o : Option (List ℕ)) where
+  pub unsigned_read : (r : Option ℕ) → ((ys : List ℕ) → length ys ≡ n → f ys ≡ le ys) → o ≡ inside n bs at (take n (drop at bs)) → MatchOption o (r ≡ None) (λ x. IsSomeAnd r (λ y. y ≡ f x)) → r ≡ number_at n bs at
+  unfolding number_at number_in
+  unsigned_read r spells e m = made_inside n bs at f _ o r e m (λ h. spells _ (length-take-le n (drop at bs) (omega (arith, length-drop at bs))))
+
+  pub signed_read : (w : Width) (r : Option ℤ) → ((ys : List ℕ) → length ys ≡ n → f ys ≡ le ys) → o ≡ inside n bs at (take n (drop at bs)) → MatchOption o (r ≡ None) (λ x. IsSomeAnd r (λ y. y ≡ to_z w (f x))) → r ≡ signed_at w n bs at
+  unfolding number_at number_in
+  signed_read w r spells e m = by o r (made_inside n bs at f (number_in n bs at) o (option_map f o) e mapped (λ h. spells _ (length-take-le n (drop at bs) (omega (arith, length-drop at bs))))) m where
+    mapped : MatchOption o (option_map f o ≡ None) (λ x. IsSomeAnd (option_map f o) (λ y. y ≡ f x))
+    mapped = all o where
+      all : (o : Option (List ℕ)) → MatchOption o (option_map f o ≡ None) (λ x. IsSomeAnd (option_map f o) (λ y. y ≡ f x))
+      all None = refl
+      all (Some x) = refl
+
+    by : (o : Option (List ℕ)) (r : Option ℤ) → option_map f o ≡ inside n bs at (number_in n bs at) → MatchOption o (r ≡ None) (λ x. IsSomeAnd r (λ y. y ≡ to_z w (f x))) → r ≡ option_map (to_z w) (inside n bs at (number_in n bs at))
+    by None r e m = m ∙ ap (option_map (to_z w)) e
+    by (Some x) None e m = absurd m
+    by (Some x) (Some y) e m = ap Some m ∙ ap (option_map (to_z w)) e
+
+-- the byte that a lookup finds
+pub byte_read : (bs : List ℕ) (at : ℕ) (r : Option (Bor ℕ)) → IsItemAt bs at r → option_copied r ≡ number_at 1 bs at
+byte_read bs at None e = sym (number_outside 1 bs at (search (arith, e)))
+byte_read bs at (Some x) e = sym (byte_inside bs at (search (arith, e)) ∙ search (arith, e))

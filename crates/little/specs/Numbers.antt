@@ -1,6 +1,7 @@
 -- Little-endian numbers within a list of bytes.
 use Rattle.std.specs.Prelude.{ℕ, ◌+◌, ◌*◌, true, false, List, [], ◌∷◌, length, take, drop, ℤ, Some, None, Option, nat_le}
-use Rattle.std.proofs.Common.{to_z}
+use Rattle.std.proofs.Common.{◌≡◌, ◌≤◌, ap, to_z}
+use Rattle.std.proofs.lemmas.Bool.{le-leb}
 use Rattle.std.specs.Int.{Width, w16, w32, w64}
 use Rattle.std.specs.Option.{option_map}
 
@@ -45,3 +46,11 @@ i32_at = signed_at w32 4
 
 abbrev pub i64_at : List ℕ → ℕ → Option ℤ
 i64_at = signed_at w64 8
+
+-- a number is there where its bytes are
+pub number_inside : (n : ℕ) (bs : List ℕ) (at : ℕ) → at + n ≤ length bs → number_at n bs at ≡ Some (number_in n bs at)
+unfolding number_at
+number_inside n bs at h = rw (le-leb (at + n) (length bs) h, inside)
+
+pub signed_inside : (w : Width) (n : ℕ) (bs : List ℕ) (at : ℕ) → at + n ≤ length bs → signed_at w n bs at ≡ Some (to_z w (number_in n bs at))
+signed_inside w n bs at h = ap (option_map (to_z w)) (number_inside n bs at h)

@@ -1,0 +1,7 @@
+use Rattle.little.proofs.Spelled.{unsigned_read, from_le_4}
+use Rattle.std.proofs.Common.{w32}
+use Rattle.std.specs.Int.{from_le_bytes}
+use Rattle.little.proofs.U32Little.read_at.Goals as goal
+
+pub returns : goal.returns
+returns c = unsigned_read 4 c.args.bytes.now c.args.at (from_le_bytes w32) c.bytes_at.result c.map.result from_le_4 c.bytes_at.ensures c.map.ensures.cases
