@@ -4,14 +4,10 @@ use Rattle.std.specs.Borrow.{Bor}
 use Rattle.std.specs.Int.{from_le_bytes}
 use Rattle.std.specs.Slice.{IsItemAt}
 use Rattle.std.proofs.lemmas.List.{drop_more, at_drop_all, length-take-le}
-use Rattle.std.proofs.lemmas.Bool.{lt-leb, leb-true}
+use Rattle.std.proofs.lemmas.Bool.{leb-true}
 use mir.Syntax.{Width}
 use Rattle.std.specs.Option.{option_map, option_copied}
-use Rattle.little.specs.Numbers.{le, number_in, inside, number_at, signed_at, number_inside}
-
-pub number_outside : (n : ℕ) (bs : List ℕ) (at : ℕ) → length bs < at + n → number_at n bs at ≡ None
-unfolding number_at
-number_outside n bs at h = rw (lt-leb (at + n) (length bs) h, inside)
+use Rattle.little.specs.Numbers.{le, number_in, inside, number_at, signed_at, number_inside, number_outside}
 
 -- the bytes of a number by their places
 pub le_places : (n : ℕ) (ys : List ℕ) (i : ℕ) → i < length ys → le (take (suc n) (drop i ys)) ≡ get_or ys i 0 + 256 * le (take n (drop (i + 1) ys))
