@@ -4,7 +4,7 @@ use Rattle.std.specs.Borrow.{Bor}
 use Rattle.std.specs.Int.{from_le_bytes}
 use Rattle.std.specs.Slice.{IsItemAt}
 use Rattle.std.proofs.lemmas.List.{drop_more, at_drop_all, length-take-le}
-use Rattle.std.proofs.lemmas.Bool.{leb-true}
+use Rattle.std.proofs.lemmas.Bool.{leb-true, leb-false}
 use mir.Syntax.{Width}
 use Rattle.std.specs.Option.{option_map, option_copied}
 use Rattle.little.specs.Numbers.{le, number_in, inside, number_at, signed_at, number_inside, number_outside}
@@ -67,3 +67,17 @@ module _ (n : ℕ) (bs : List ℕ) (at : ℕ) (f : List ℕ → ℕ) (o : Option
 pub byte_read : (bs : List ℕ) (at : ℕ) (r : Option (Bor ℕ)) → IsItemAt bs at r → option_copied r ≡ number_at 1 bs at
 byte_read bs at None e = sym (number_outside 1 bs at (search (arith, e)))
 byte_read bs at (Some x) e = sym (byte_inside bs at (search (arith, e)) ∙ search (arith, e))
+
+-- what the answer of a read says of the bytes
+module _ {A : Type 0} (n : ℕ) (bs : List ℕ) (at : ℕ) (v : A) (o : Option A) (whole : at + n ≤ length bs → o ≡ Some v) (cut : length bs < at + n → o ≡ None) where
+  pub read_none : None ≡ o → length bs < at + n
+  read_none e = by (nat_le (at + n) (length bs)) refl where
+    by : (b : Bool) → nat_le (at + n) (length bs) ≡ b → length bs < at + n
+    by true t = let w = whole (leb-true (at + n) (length bs) t) in let z : ◌≡◌ {A = ℕ} 0 1 = cc in absurd (omega arith)
+    by false t = leb-false (at + n) (length bs) t
+
+  pub read_some : (x : A) → Some x ≡ o → (at + n ≤ length bs) × (x ≡ v)
+  read_some x e = by (nat_le (at + n) (length bs)) refl where
+    by : (b : Bool) → nat_le (at + n) (length bs) ≡ b → (at + n ≤ length bs) × (x ≡ v)
+    by true t = let h = leb-true (at + n) (length bs) t in let w = whole h in (h, cc)
+    by false t = let w = cut (leb-false (at + n) (length bs) t) in let z : ◌≡◌ {A = ℕ} 0 1 = cc in absurd (omega arith)
