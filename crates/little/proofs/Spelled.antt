@@ -1,9 +1,9 @@
 -- What bytes spell, byte by byte.
-use Rattle.std.proofs.Common.{◌≡◌, ℕ, suc, ◌+◌, ◌*◌, ◌<◌, ◌≤◌, Bool, true, false, nat_le, List, length, get_or, slice_index, take, drop, Some, None, Option, ℤ, MatchOption, IsSomeAnd, sym, refl, ap, ◌∙◌, arith, length-drop, to_z, w16, w32, w64}
+use Rattle.std.proofs.Common.{◌≡◌, ℕ, suc, ◌+◌, ◌-◌, ◌*◌, ◌<◌, ◌≤◌, Bool, true, false, nat_le, List, length, get_or, slice_index, take, drop, Some, None, Option, ℤ, MatchOption, IsSomeAnd, sym, refl, ap, ◌∙◌, arith, length-drop, to_z, w16, w32, w64}
 use Rattle.std.specs.Borrow.{Bor}
 use Rattle.std.specs.Int.{from_le_bytes}
 use Rattle.std.specs.Slice.{IsItemAt}
-use Rattle.std.proofs.lemmas.List.{drop_more, at_drop_all, length-take-le}
+use Rattle.std.proofs.lemmas.List.{drop_more, at_drop_all, length-take-le, drop-take, take-take, drop-drop}
 use Rattle.std.proofs.lemmas.Bool.{leb-true, leb-false}
 use mir.Syntax.{Width}
 use Rattle.std.specs.Option.{option_map, option_copied}
@@ -81,3 +81,10 @@ module _ {A : Type 0} (n : ℕ) (bs : List ℕ) (at : ℕ) (v : A) (o : Option A
     by : (b : Bool) → nat_le (at + n) (length bs) ≡ b → (at + n ≤ length bs) × (x ≡ v)
     by true t = let h = leb-true (at + n) (length bs) t in let w = whole h in (h, cc)
     by false t = let w = cut (leb-false (at + n) (length bs) t) in let z : ◌≡◌ {A = ℕ} 0 1 = cc in absurd (omega arith)
+
+-- a number within a part of the bytes
+pub number_in_part : (n p w : ℕ) (bs : List ℕ) (at : ℕ) → p + n ≤ w → number_in n (take w (drop at bs)) p ≡ number_in n bs (at + p)
+unfolding number_in
+number_in_part n p w bs at h =
+    let e : w ≡ p + (w - p) = omega arith in
+    ap (λ k. le (take n (drop p (take k (drop at bs))))) e ∙ ap (λ ys. le (take n ys)) (drop-take p (w - p) (drop at bs)) ∙ ap le (take-take n (w - p) (drop p (drop at bs)) (omega arith)) ∙ ap (λ ys. le (take n ys)) (drop-drop p at bs)

@@ -26,8 +26,8 @@ pub trait Little: Sized {
     ghost cut: { (bs : List ℕ) (at : ℕ) → length bs < at + WIDTH → number_at bs at ≡ None };
 }
 
-// So many bytes from a place on.
-fn bytes_at<const N: usize>(bytes: &[u8], at: usize) -> Option<[u8; N]>
+/// So many bytes from a place on, where they are there.
+pub fn bytes_at<const N: usize>(bytes: &[u8], at: usize) -> Option<[u8; N]>
     ensures { result ≡ inside N bytes.now at (take N (drop at bytes.now)) }
 {
     bytes.get(at..)?.first_chunk().copied()

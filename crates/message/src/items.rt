@@ -1,10 +1,10 @@
-// Nodes, buffers and counts: signed numbers of 8 bytes, one after the other.
-ghost use Rattle.std.specs.Prelude.{◌≡◌, ◌+◌};
+// Nodes and buffers: signed numbers of 8 bytes, one after the other.
+ghost use Rattle.std.specs.Prelude.{◌≡◌, ◌+◌, ◌≤◌, length};
 ghost use Rattle.std.proofs.Common.{rules};
 ghost use Rattle.little.specs.Numbers.{inside, inside_whole, inside_cut};
-ghost use Rattle.message.specs.Items.{count_at, node_at, buffer_at};
+ghost use Rattle.message.specs.Items.{node_at, buffer_at};
 
-use little::Little;
+use little::{Little, bytes_at};
 
 /// The length of a column and how many of its slots are absent.
 #[derive(Clone, Copy, Debug, Default, PartialEq, Eq, Hash)]
@@ -20,13 +20,23 @@ pub struct Buffer {
     pub length: i64,
 }
 
-// Two signed numbers, one behind the other.
-fn pair_at(bytes: &[u8], at: usize) -> Option<(i64, i64)>
-    ensures { result ≡ inside 16 bytes.now at (count_at bytes.now at, count_at bytes.now (at + 8)) }
+// A number of an item, by its place there.
+pub(crate) fn field<T: Little>(item: &[u8], at: usize) -> T
+    requires { at + T.WIDTH ≤ length item.now }
+    ensures { result ≡ T.number item.now at }
 {
-    let first = i64::read_at(bytes, at)?;
-    let second = i64::read_at(bytes, at.checked_add(8)?)?;
-    Some((first, second))
+    T::read_at(item, at).unwrap()
+}
+
+impl Node {
+    fn from_bytes(bytes: [u8; 16]) -> Node
+        ensures { result ≡ node_at bytes 0 }
+    {
+        Node {
+            length: field(&bytes, 0),
+            nulls: field(&bytes, 8),
+        }
+    }
 }
 
 impl Little for Node {
@@ -45,8 +55,18 @@ impl Little for Node {
     ghost cut = { λ bs at. inside_cut 16 bs at (node_at bs at) };
 
     fn read_at(bytes: &[u8], at: usize) -> Option<Node> {
-        let (length, nulls) = pair_at(bytes, at)?;
-        Some(Node { length, nulls })
+        bytes_at(bytes, at).map(Node::from_bytes)
+    }
+}
+
+impl Buffer {
+    fn from_bytes(bytes: [u8; 16]) -> Buffer
+        ensures { result ≡ buffer_at bytes 0 }
+    {
+        Buffer {
+            offset: field(&bytes, 0),
+            length: field(&bytes, 8),
+        }
     }
 }
 
@@ -66,7 +86,6 @@ impl Little for Buffer {
     ghost cut = { λ bs at. inside_cut 16 bs at (buffer_at bs at) };
 
     fn read_at(bytes: &[u8], at: usize) -> Option<Buffer> {
-        let (offset, length) = pair_at(bytes, at)?;
-        Some(Buffer { offset, length })
+        bytes_at(bytes, at).map(Buffer::from_bytes)
     }
 }
