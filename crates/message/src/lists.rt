@@ -1,5 +1,5 @@
 // Lists by their items.
-ghost use Rattle.std.specs.Prelude.{◌≡◌, List};
+ghost use Rattle.std.specs.Prelude.{◌≡◌, ◌↔◌, List, [], length, IsTrue};
 ghost use Rattle.message.specs.Listed.{Lays, TellsItems, listed};
 ghost use Rattle.std.specs.List.{slice_get};
 
@@ -45,7 +45,7 @@ pub struct Items<'a, T> {
     pub of: PhantomData<T>,
 }
 
-impl<'a, T: Little> Items<'a, T> {
+impl<'a, T> Items<'a, T> {
     pub fn new(bytes: &'a [u8]) -> Items<'a, T>
         ensures { result.bytes.now ≡ bytes.now }
     {
@@ -53,6 +53,29 @@ impl<'a, T: Little> Items<'a, T> {
             bytes,
             of: PhantomData,
         }
+    }
+}
+
+impl<'a, T: Little> Items<'a, T> {
+    pub fn len(&self) -> usize
+        ensures { result ≡ length (listed T.WIDTH T.number self.now.bytes.now) }
+    {
+        self.bytes.len() / T::WIDTH
+    }
+
+    pub fn is_empty(&self) -> bool
+        ensures { IsTrue result ↔ (listed T.WIDTH T.number self.now.bytes.now ≡ []) }
+    {
+        self.len() == 0
+    }
+}
+
+// A list of no items.
+impl<'a, T> Default for Items<'a, T> {
+    ghost is_default = { λ s. s.bytes.now ≡ [] };
+
+    fn default() -> Items<'a, T> {
+        Items::new(&[])
     }
 }
 
