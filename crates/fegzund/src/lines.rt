@@ -1,52 +1,12 @@
 // The lines of a listing.
-ghost use Rattle.std.specs.Prelude.{◌+◌, ◌≤◌, length};
-
-use crate::text::Line;
-use crate::words::{mark, number, signed, word};
 use framing::FrameHead;
 use message::{BatchFacts, Buffer, Fault, Header, Node, Place, Row};
+use std::fmt;
+use std::io::{Result, Write};
 
-// The number and the place of a frame.
-fn placed<const N: usize>(to: &mut [u8], at: usize, before: &[u8; N], place: Place) -> usize
-    requires { at + (N + 50) ≤ length to.old }
-    ensures { result ≤ at + (N + 50) }
-{
-    let at = number(to, at, before, place.message);
-    number(to, at, b" position ", place.position)
-}
-
-#[derive(Drop)]
-pub(crate) struct EndLine {
-    pub(crate) place: Place,
-}
-
-impl Line for EndLine {
-    fn put(&self, to: &mut [u8]) -> usize {
-        let at = placed(to, 0, b"end ", self.place);
-        word(to, at, b"\n")
-    }
-}
-
-#[derive(Drop)]
-pub(crate) struct FrameLine<'a> {
-    pub(crate) head: &'a FrameHead,
-}
-
-impl<'a> Line for FrameLine<'a> {
-    fn put(&self, to: &mut [u8]) -> usize {
-        let at = placed(to, 0, b"frame ", self.head.place);
-        let at = mark(to, at, b" marker ", self.head.marked);
-        let at = number(to, at, b" size ", self.head.size as u64);
-        let at = signed(to, at, b" version ", i64::from(self.head.facts.version));
-        let at = number(
-            to,
-            at,
-            b" type ",
-            u64::from(header_type(&self.head.facts.header)),
-        );
-        let at = number(to, at, b" body ", self.head.body as u64);
-        word(to, at, b"\n")
-    }
+// A word for a mark.
+fn yes_or_no(mark: bool) -> &'static str {
+    if mark { "yes" } else { "no" }
 }
 
 // The number of a header type.
@@ -60,138 +20,107 @@ fn header_type(header: &Header) -> u8 {
     }
 }
 
-#[derive(Drop)]
-pub(crate) struct RowLine<'a> {
-    pub(crate) k: usize,
-    pub(crate) row: &'a Row,
+pub(crate) fn end_mark<W: Write>(out: &mut W, place: &Place) -> Result<()> {
+    let Place { message, position } = place;
+    writeln!(out, "end {message} position {position}")
 }
 
-impl<'a> Line for RowLine<'a> {
-    fn put(&self, to: &mut [u8]) -> usize {
-        let at = number(to, 0, b"row ", self.k as u64);
-        let at = number(to, at, b" kind ", u64::from(self.row.kind));
-        let at = number(to, at, b" flag ", u64::from(self.row.flag));
-        let at = number(to, at, b" tag ", u64::from(self.row.tag));
-        let at = number(to, at, b" parameter ", u64::from(self.row.parameter));
-        let at = signed(to, at, b" id ", self.row.id);
-        let at = number(to, at, b" end ", u64::from(self.row.end));
-        word(to, at, b"\n")
+pub(crate) fn frame<W: Write>(out: &mut W, head: &FrameHead) -> Result<()> {
+    let Place { message, position } = head.place;
+    writeln!(
+        out,
+        "frame {message} position {position} marker {} size {} version {} type {} body {}",
+        yes_or_no(head.marked),
+        head.size,
+        head.facts.version,
+        header_type(&head.facts.header),
+        head.body
+    )
+}
+
+pub(crate) fn row<W: Write>(out: &mut W, k: usize, row: &Row) -> Result<()> {
+    let Row {
+        kind,
+        flag,
+        tag,
+        parameter,
+        id,
+        end,
+    } = row;
+    writeln!(
+        out,
+        "row {k} kind {kind} flag {flag} tag {tag} parameter {parameter} id {id} end {end}"
+    )
+}
+
+// What a batch says of itself.
+#[derive(Drop)]
+struct Facts<'a>(&'a BatchFacts);
+
+impl<'a> fmt::Display for Facts<'a> {
+    fn fmt<W: fmt::Write>(&self, f: &mut fmt::Formatter<W>) -> fmt::Result {
+        let facts = self.0;
+        write!(
+            f,
+            "length {} compressed {} missing {} nodes {} buffers {} counts {}",
+            facts.length,
+            yes_or_no(facts.compressed),
+            yes_or_no(facts.missing),
+            facts.nodes,
+            facts.buffers,
+            facts.counts
+        )
     }
 }
 
-// What a batch says of itself, up to the end of the line.
-fn batch<const N: usize>(to: &mut [u8], at: usize, before: &[u8; N], facts: &BatchFacts) -> usize
-    requires { at + (N + 160) ≤ length to.old }
-    ensures { result ≤ at + (N + 160) }
-{
-    let at = signed(to, at, before, facts.length);
-    let at = mark(to, at, b" compressed ", facts.compressed);
-    let at = mark(to, at, b" missing ", facts.missing);
-    let at = number(to, at, b" nodes ", facts.nodes as u64);
-    let at = number(to, at, b" buffers ", facts.buffers as u64);
-    let at = number(to, at, b" counts ", facts.counts as u64);
-    word(to, at, b"\n")
+pub(crate) fn batch<W: Write>(out: &mut W, facts: &BatchFacts) -> Result<()> {
+    writeln!(out, "batch {}", Facts(facts))
 }
 
-#[derive(Drop)]
-pub(crate) struct BatchLine<'a> {
-    pub(crate) facts: &'a BatchFacts,
+pub(crate) fn dictionary<W: Write>(
+    out: &mut W,
+    id: i64,
+    delta: bool,
+    facts: &BatchFacts,
+) -> Result<()> {
+    writeln!(
+        out,
+        "dictionary id {id} delta {} {}",
+        yes_or_no(delta),
+        Facts(facts)
+    )
 }
 
-impl<'a> Line for BatchLine<'a> {
-    fn put(&self, to: &mut [u8]) -> usize {
-        batch(to, 0, b"batch length ", self.facts)
-    }
+pub(crate) fn node<W: Write>(out: &mut W, k: usize, node: &Node) -> Result<()> {
+    let Node { length, nulls } = node;
+    writeln!(out, "node {k} length {length} nulls {nulls}")
 }
 
-#[derive(Drop)]
-pub(crate) struct DictionaryLine<'a> {
-    pub(crate) id: i64,
-    pub(crate) delta: bool,
-    pub(crate) facts: &'a BatchFacts,
+pub(crate) fn buffer<W: Write>(out: &mut W, k: usize, buffer: &Buffer) -> Result<()> {
+    let Buffer { offset, length } = buffer;
+    writeln!(out, "buffer {k} offset {offset} length {length}")
 }
 
-impl<'a> Line for DictionaryLine<'a> {
-    fn put(&self, to: &mut [u8]) -> usize {
-        let at = signed(to, 0, b"dictionary id ", self.id);
-        let at = mark(to, at, b" delta ", self.delta);
-        batch(to, at, b" length ", self.facts)
-    }
+pub(crate) fn count<W: Write>(out: &mut W, k: usize, value: &i64) -> Result<()> {
+    writeln!(out, "count {k} value {value}")
 }
 
-#[derive(Drop)]
-pub(crate) struct NodeLine<'a> {
-    pub(crate) k: usize,
-    pub(crate) node: &'a Node,
-}
-
-impl<'a> Line for NodeLine<'a> {
-    fn put(&self, to: &mut [u8]) -> usize {
-        let at = number(to, 0, b"node ", self.k as u64);
-        let at = signed(to, at, b" length ", self.node.length);
-        let at = signed(to, at, b" nulls ", self.node.nulls);
-        word(to, at, b"\n")
-    }
-}
-
-#[derive(Drop)]
-pub(crate) struct BufferLine<'a> {
-    pub(crate) k: usize,
-    pub(crate) buffer: &'a Buffer,
-}
-
-impl<'a> Line for BufferLine<'a> {
-    fn put(&self, to: &mut [u8]) -> usize {
-        let at = number(to, 0, b"buffer ", self.k as u64);
-        let at = signed(to, at, b" offset ", self.buffer.offset);
-        let at = signed(to, at, b" length ", self.buffer.length);
-        word(to, at, b"\n")
-    }
-}
-
-#[derive(Drop)]
-pub(crate) struct CountLine {
-    pub(crate) k: usize,
-    pub(crate) value: i64,
-}
-
-impl Line for CountLine {
-    fn put(&self, to: &mut [u8]) -> usize {
-        let at = number(to, 0, b"count ", self.k as u64);
-        let at = signed(to, at, b" value ", self.value);
-        word(to, at, b"\n")
-    }
-}
-
-#[derive(Drop)]
-pub(crate) struct RefusedLine {
-    pub(crate) fault: Fault,
-}
-
-impl Line for RefusedLine {
-    fn put(&self, to: &mut [u8]) -> usize {
-        let mut at = number(to, 0, b"refused ", u64::from(self.fault.refusal.number()));
-        if let Some(place) = self.fault.place {
-            at = placed(to, at, b" message ", place);
+pub(crate) fn refused<W: Write>(out: &mut W, fault: &Fault) -> Result<()> {
+    let number = fault.refusal.number();
+    match fault.place {
+        Some(Place { message, position }) => {
+            writeln!(
+                out,
+                "refused {number} message {message} position {position}"
+            )
         }
-        word(to, at, b"\n")
+        None => writeln!(out, "refused {number}"),
     }
 }
 
-// The last line.
-#[derive(Drop)]
-pub(crate) struct FinishLine {
-    pub(crate) end: Result<(), Fault>,
-}
-
-impl Line for FinishLine {
-    fn put(&self, to: &mut [u8]) -> usize {
-        match self.end {
-            Ok(()) => word(to, 0, b"finish ok\n"),
-            Err(fault) => {
-                let at = number(to, 0, b"finish refused ", u64::from(fault.refusal.number()));
-                word(to, at, b"\n")
-            }
-        }
+pub(crate) fn finish<W: Write>(out: &mut W, end: &std::result::Result<(), Fault>) -> Result<()> {
+    match end {
+        Ok(()) => writeln!(out, "finish ok"),
+        Err(fault) => writeln!(out, "finish refused {}", fault.refusal.number()),
     }
 }
