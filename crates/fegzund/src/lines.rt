@@ -1,12 +1,26 @@
 // The lines of a listing.
 use framing::FrameHead;
+use itoa::{Buffer as Digits, Integer};
 use message::{BatchFacts, Buffer, Fault, Header, Node, Place, Row};
-use std::fmt;
 use std::io::{Result, Write};
 
-// A word for a mark.
-fn yes_or_no(mark: bool) -> &'static str {
-    if mark { "yes" } else { "no" }
+// A word and a number.
+#[inline(always)]
+fn number<W: Write, I: Integer>(out: &mut W, word: &str, number: I) -> Result<()> {
+    out.write_all(word.as_bytes())?;
+    let mut digits = Digits::new();
+    out.write_all(digits.format(number).as_bytes())
+}
+
+// A word and a mark.
+#[inline(always)]
+fn mark<W: Write>(out: &mut W, word: &str, mark: bool) -> Result<()> {
+    out.write_all(word.as_bytes())?;
+    if mark {
+        out.write_all(b"yes")
+    } else {
+        out.write_all(b"no")
+    }
 }
 
 // The number of a header type.
@@ -20,107 +34,99 @@ fn header_type(header: &Header) -> u8 {
     }
 }
 
+// The number and the place of a frame.
+fn placed<W: Write>(out: &mut W, word: &str, place: &Place) -> Result<()> {
+    number(out, word, place.message)?;
+    number(out, " position ", place.position)
+}
+
 pub(crate) fn end_mark<W: Write>(out: &mut W, place: &Place) -> Result<()> {
-    let Place { message, position } = place;
-    writeln!(out, "end {message} position {position}")
+    placed(out, "end ", place)?;
+    out.write_all(b"\n")
 }
 
 pub(crate) fn frame<W: Write>(out: &mut W, head: &FrameHead) -> Result<()> {
-    let Place { message, position } = head.place;
-    writeln!(
-        out,
-        "frame {message} position {position} marker {} size {} version {} type {} body {}",
-        yes_or_no(head.marked),
-        head.size,
-        head.facts.version,
-        header_type(&head.facts.header),
-        head.body
-    )
+    placed(out, "frame ", &head.place)?;
+    mark(out, " marker ", head.marked)?;
+    number(out, " size ", head.size)?;
+    number(out, " version ", head.facts.version)?;
+    number(out, " type ", header_type(&head.facts.header))?;
+    number(out, " body ", head.body)?;
+    out.write_all(b"\n")
 }
 
 pub(crate) fn row<W: Write>(out: &mut W, k: usize, row: &Row) -> Result<()> {
-    let Row {
-        kind,
-        flag,
-        tag,
-        parameter,
-        id,
-        end,
-    } = row;
-    writeln!(
-        out,
-        "row {k} kind {kind} flag {flag} tag {tag} parameter {parameter} id {id} end {end}"
-    )
+    number(out, "row ", k)?;
+    number(out, " kind ", row.kind)?;
+    number(out, " flag ", row.flag)?;
+    number(out, " tag ", row.tag)?;
+    number(out, " parameter ", row.parameter)?;
+    number(out, " id ", row.id)?;
+    number(out, " end ", row.end)?;
+    out.write_all(b"\n")
 }
 
-// What a batch says of itself.
-#[derive(Drop)]
-struct Facts<'a>(&'a BatchFacts);
-
-impl<'a> fmt::Display for Facts<'a> {
-    fn fmt<W: fmt::Write>(&self, f: &mut fmt::Formatter<W>) -> fmt::Result {
-        let facts = self.0;
-        write!(
-            f,
-            "length {} compressed {} missing {} nodes {} buffers {} counts {}",
-            facts.length,
-            yes_or_no(facts.compressed),
-            yes_or_no(facts.missing),
-            facts.nodes,
-            facts.buffers,
-            facts.counts
-        )
-    }
+// What a batch says of itself, up to the end of the line.
+fn facts<W: Write>(out: &mut W, facts: &BatchFacts) -> Result<()> {
+    number(out, " length ", facts.length)?;
+    mark(out, " compressed ", facts.compressed)?;
+    mark(out, " missing ", facts.missing)?;
+    number(out, " nodes ", facts.nodes)?;
+    number(out, " buffers ", facts.buffers)?;
+    number(out, " counts ", facts.counts)?;
+    out.write_all(b"\n")
 }
 
-pub(crate) fn batch<W: Write>(out: &mut W, facts: &BatchFacts) -> Result<()> {
-    writeln!(out, "batch {}", Facts(facts))
+pub(crate) fn batch<W: Write>(out: &mut W, data: &BatchFacts) -> Result<()> {
+    out.write_all(b"batch")?;
+    facts(out, data)
 }
 
 pub(crate) fn dictionary<W: Write>(
     out: &mut W,
     id: i64,
     delta: bool,
-    facts: &BatchFacts,
+    data: &BatchFacts,
 ) -> Result<()> {
-    writeln!(
-        out,
-        "dictionary id {id} delta {} {}",
-        yes_or_no(delta),
-        Facts(facts)
-    )
+    number(out, "dictionary id ", id)?;
+    mark(out, " delta ", delta)?;
+    facts(out, data)
 }
 
 pub(crate) fn node<W: Write>(out: &mut W, k: usize, node: &Node) -> Result<()> {
-    let Node { length, nulls } = node;
-    writeln!(out, "node {k} length {length} nulls {nulls}")
+    number(out, "node ", k)?;
+    number(out, " length ", node.length)?;
+    number(out, " nulls ", node.nulls)?;
+    out.write_all(b"\n")
 }
 
 pub(crate) fn buffer<W: Write>(out: &mut W, k: usize, buffer: &Buffer) -> Result<()> {
-    let Buffer { offset, length } = buffer;
-    writeln!(out, "buffer {k} offset {offset} length {length}")
+    number(out, "buffer ", k)?;
+    number(out, " offset ", buffer.offset)?;
+    number(out, " length ", buffer.length)?;
+    out.write_all(b"\n")
 }
 
 pub(crate) fn count<W: Write>(out: &mut W, k: usize, value: &i64) -> Result<()> {
-    writeln!(out, "count {k} value {value}")
+    number(out, "count ", k)?;
+    number(out, " value ", *value)?;
+    out.write_all(b"\n")
 }
 
 pub(crate) fn refused<W: Write>(out: &mut W, fault: &Fault) -> Result<()> {
-    let number = fault.refusal.number();
-    match fault.place {
-        Some(Place { message, position }) => {
-            writeln!(
-                out,
-                "refused {number} message {message} position {position}"
-            )
-        }
-        None => writeln!(out, "refused {number}"),
+    number(out, "refused ", fault.refusal.number())?;
+    if let Some(place) = &fault.place {
+        placed(out, " message ", place)?;
     }
+    out.write_all(b"\n")
 }
 
 pub(crate) fn finish<W: Write>(out: &mut W, end: &std::result::Result<(), Fault>) -> Result<()> {
     match end {
-        Ok(()) => writeln!(out, "finish ok"),
-        Err(fault) => writeln!(out, "finish refused {}", fault.refusal.number()),
+        Ok(()) => out.write_all(b"finish ok\n"),
+        Err(fault) => {
+            number(out, "finish refused ", fault.refusal.number())?;
+            out.write_all(b"\n")
+        }
     }
 }
