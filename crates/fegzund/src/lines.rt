@@ -1,27 +1,8 @@
 // The lines of a listing.
+use crate::text::Text;
 use framing::FrameHead;
-use itoa::{Buffer as Digits, Integer};
 use message::{BatchFacts, Buffer, Fault, Header, Node, Place, Row};
 use std::io::{Result, Write};
-
-// A word and a number.
-#[inline(always)]
-fn number<W: Write, I: Integer>(out: &mut W, word: &str, number: I) -> Result<()> {
-    out.write_all(word.as_bytes())?;
-    let mut digits = Digits::new();
-    out.write_all(digits.format(number).as_bytes())
-}
-
-// A word and a mark.
-#[inline(always)]
-fn mark<W: Write>(out: &mut W, word: &str, mark: bool) -> Result<()> {
-    out.write_all(word.as_bytes())?;
-    if mark {
-        out.write_all(b"yes")
-    } else {
-        out.write_all(b"no")
-    }
-}
 
 // The number of a header type.
 fn header_type(header: &Header) -> u8 {
@@ -35,98 +16,101 @@ fn header_type(header: &Header) -> u8 {
 }
 
 // The number and the place of a frame.
-fn placed<W: Write>(out: &mut W, word: &str, place: &Place) -> Result<()> {
-    number(out, word, place.message)?;
-    number(out, " position ", place.position)
+fn placed<W: Write + Drop>(text: &mut Text<W>, word: &str, place: &Place) -> Result<()> {
+    text.number(word, place.message)?;
+    text.number(" position ", place.position)
 }
 
-pub(crate) fn end_mark<W: Write>(out: &mut W, place: &Place) -> Result<()> {
-    placed(out, "end ", place)?;
-    out.write_all(b"\n")
+pub(crate) fn end_mark<W: Write + Drop>(text: &mut Text<W>, place: &Place) -> Result<()> {
+    placed(text, "end ", place)?;
+    text.word("\n")
 }
 
-pub(crate) fn frame<W: Write>(out: &mut W, head: &FrameHead) -> Result<()> {
-    placed(out, "frame ", &head.place)?;
-    mark(out, " marker ", head.marked)?;
-    number(out, " size ", head.size)?;
-    number(out, " version ", head.facts.version)?;
-    number(out, " type ", header_type(&head.facts.header))?;
-    number(out, " body ", head.body)?;
-    out.write_all(b"\n")
+pub(crate) fn frame<W: Write + Drop>(text: &mut Text<W>, head: &FrameHead) -> Result<()> {
+    placed(text, "frame ", &head.place)?;
+    text.mark(" marker ", head.marked)?;
+    text.number(" size ", head.size)?;
+    text.number(" version ", head.facts.version)?;
+    text.number(" type ", header_type(&head.facts.header))?;
+    text.number(" body ", head.body)?;
+    text.word("\n")
 }
 
-pub(crate) fn row<W: Write>(out: &mut W, k: usize, row: &Row) -> Result<()> {
-    number(out, "row ", k)?;
-    number(out, " kind ", row.kind)?;
-    number(out, " flag ", row.flag)?;
-    number(out, " tag ", row.tag)?;
-    number(out, " parameter ", row.parameter)?;
-    number(out, " id ", row.id)?;
-    number(out, " end ", row.end)?;
-    out.write_all(b"\n")
+pub(crate) fn row<W: Write + Drop>(text: &mut Text<W>, k: usize, row: &Row) -> Result<()> {
+    text.number("row ", k)?;
+    text.number(" kind ", row.kind)?;
+    text.number(" flag ", row.flag)?;
+    text.number(" tag ", row.tag)?;
+    text.number(" parameter ", row.parameter)?;
+    text.number(" id ", row.id)?;
+    text.number(" end ", row.end)?;
+    text.word("\n")
 }
 
 // What a batch says of itself, up to the end of the line.
-fn facts<W: Write>(out: &mut W, facts: &BatchFacts) -> Result<()> {
-    number(out, " length ", facts.length)?;
-    mark(out, " compressed ", facts.compressed)?;
-    mark(out, " missing ", facts.missing)?;
-    number(out, " nodes ", facts.nodes)?;
-    number(out, " buffers ", facts.buffers)?;
-    number(out, " counts ", facts.counts)?;
-    out.write_all(b"\n")
+fn facts<W: Write + Drop>(text: &mut Text<W>, facts: &BatchFacts) -> Result<()> {
+    text.number(" length ", facts.length)?;
+    text.mark(" compressed ", facts.compressed)?;
+    text.mark(" missing ", facts.missing)?;
+    text.number(" nodes ", facts.nodes)?;
+    text.number(" buffers ", facts.buffers)?;
+    text.number(" counts ", facts.counts)?;
+    text.word("\n")
 }
 
-pub(crate) fn batch<W: Write>(out: &mut W, data: &BatchFacts) -> Result<()> {
-    out.write_all(b"batch")?;
-    facts(out, data)
+pub(crate) fn batch<W: Write + Drop>(text: &mut Text<W>, data: &BatchFacts) -> Result<()> {
+    text.word("batch")?;
+    facts(text, data)
 }
 
-pub(crate) fn dictionary<W: Write>(
-    out: &mut W,
+pub(crate) fn dictionary<W: Write + Drop>(
+    text: &mut Text<W>,
     id: i64,
     delta: bool,
     data: &BatchFacts,
 ) -> Result<()> {
-    number(out, "dictionary id ", id)?;
-    mark(out, " delta ", delta)?;
-    facts(out, data)
+    text.number("dictionary id ", id)?;
+    text.mark(" delta ", delta)?;
+    facts(text, data)
 }
 
-pub(crate) fn node<W: Write>(out: &mut W, k: usize, node: &Node) -> Result<()> {
-    number(out, "node ", k)?;
-    number(out, " length ", node.length)?;
-    number(out, " nulls ", node.nulls)?;
-    out.write_all(b"\n")
+pub(crate) fn node<W: Write + Drop>(text: &mut Text<W>, k: usize, node: &Node) -> Result<()> {
+    text.number("node ", k)?;
+    text.number(" length ", node.length)?;
+    text.number(" nulls ", node.nulls)?;
+    text.word("\n")
 }
 
-pub(crate) fn buffer<W: Write>(out: &mut W, k: usize, buffer: &Buffer) -> Result<()> {
-    number(out, "buffer ", k)?;
-    number(out, " offset ", buffer.offset)?;
-    number(out, " length ", buffer.length)?;
-    out.write_all(b"\n")
+pub(crate) fn buffer<W: Write + Drop>(text: &mut Text<W>, k: usize, buffer: &Buffer) -> Result<()> {
+    text.number("buffer ", k)?;
+    text.number(" offset ", buffer.offset)?;
+    text.number(" length ", buffer.length)?;
+    text.word("\n")
 }
 
-pub(crate) fn count<W: Write>(out: &mut W, k: usize, value: &i64) -> Result<()> {
-    number(out, "count ", k)?;
-    number(out, " value ", *value)?;
-    out.write_all(b"\n")
+pub(crate) fn count<W: Write + Drop>(text: &mut Text<W>, k: usize, value: &i64) -> Result<()> {
+    text.number("count ", k)?;
+    text.number(" value ", *value)?;
+    text.word("\n")
 }
 
-pub(crate) fn refused<W: Write>(out: &mut W, fault: &Fault) -> Result<()> {
-    number(out, "refused ", fault.refusal.number())?;
+pub(crate) fn refused<W: Write + Drop>(text: &mut Text<W>, fault: &Fault) -> Result<()> {
+    text.number("refused ", fault.refusal.number())?;
     if let Some(place) = &fault.place {
-        placed(out, " message ", place)?;
+        placed(text, " message ", place)?;
     }
-    out.write_all(b"\n")
+    text.word("\n")
 }
 
-pub(crate) fn finish<W: Write>(out: &mut W, end: &std::result::Result<(), Fault>) -> Result<()> {
+pub(crate) fn finish<W: Write + Drop>(
+    text: &mut Text<W>,
+    end: &std::result::Result<(), Fault>,
+) -> Result<()> {
     match end {
-        Ok(()) => out.write_all(b"finish ok\n"),
+        Ok(()) => text.word("finish ok\n"),
         Err(fault) => {
-            number(out, "finish refused ", fault.refusal.number())?;
-            out.write_all(b"\n")
+            text.number("finish refused ", fault.refusal.number())?;
+            text.word("\n")
         }
     }
 }

@@ -1,5 +1,6 @@
 // The listing of a stream, frame by frame.
 use crate::lines;
+use crate::text::Text;
 use framing::FrameHead;
 use message::{BatchFacts, Buffer, Fault, Header, NO_ROW, Node, Place, Reading};
 use std::io::{Result, Write};
@@ -17,7 +18,7 @@ pub(crate) struct Message<'a, F> {
 // Where the lines go, and tables for the items of a batch.
 #[derive(Drop)]
 pub(crate) struct Listing<W: Write + Drop> {
-    out: W,
+    text: Text<W>,
     nodes: [Node; ITEMS],
     buffers: [Buffer; ITEMS],
     counts: [i64; ITEMS],
@@ -26,7 +27,7 @@ pub(crate) struct Listing<W: Write + Drop> {
 impl<W: Write + Drop> Listing<W> {
     pub(crate) fn new(out: W) -> Listing<W> {
         Listing {
-            out,
+            text: Text::new(out),
             nodes: [Node {
                 length: 0,
                 nulls: 0,
@@ -40,11 +41,11 @@ impl<W: Write + Drop> Listing<W> {
     }
 
     pub(crate) fn flush(&mut self) -> Result<()> {
-        self.out.flush()
+        self.text.flush()
     }
 
     pub(crate) fn end_mark(&mut self, place: &Place) -> Result<()> {
-        lines::end_mark(&mut self.out, place)
+        lines::end_mark(&mut self.text, place)
     }
 
     pub(crate) fn frame<F: Reading>(
@@ -52,15 +53,15 @@ impl<W: Write + Drop> Listing<W> {
         head: &FrameHead,
         message: &Message<'_, F>,
     ) -> Result<()> {
-        lines::frame(&mut self.out, head)?;
+        lines::frame(&mut self.text, head)?;
         match &head.facts.header {
             Header::Schema { rows } => self.rows(message, *rows),
             Header::DictionaryBatch { id, delta, data } => {
-                lines::dictionary(&mut self.out, *id, *delta, data)?;
+                lines::dictionary(&mut self.text, *id, *delta, data)?;
                 self.lists(message, data)
             }
             Header::RecordBatch { data } => {
-                lines::batch(&mut self.out, data)?;
+                lines::batch(&mut self.text, data)?;
                 self.lists(message, data)
             }
             Header::Empty | Header::Other { .. } => Ok(()),
@@ -71,7 +72,7 @@ impl<W: Write + Drop> Listing<W> {
         let mut table = [NO_ROW; 256];
         let n = message.reading.rows(message.bytes, &mut table);
         items(
-            &mut self.out,
+            &mut self.text,
             count,
             &table[..n],
             |k| message.reading.row(message.bytes, k),
@@ -83,21 +84,21 @@ impl<W: Write + Drop> Listing<W> {
         let Message { reading, bytes } = message;
         let sizes = reading.lists(bytes, &mut self.nodes, &mut self.buffers, &mut self.counts);
         items(
-            &mut self.out,
+            &mut self.text,
             facts.nodes,
             &self.nodes[..sizes.nodes],
             |k| reading.node(bytes, k),
             lines::node,
         )?;
         items(
-            &mut self.out,
+            &mut self.text,
             facts.buffers,
             &self.buffers[..sizes.buffers],
             |k| reading.buffer(bytes, k),
             lines::buffer,
         )?;
         items(
-            &mut self.out,
+            &mut self.text,
             facts.counts,
             &self.counts[..sizes.counts],
             |k| reading.count(bytes, k),
@@ -106,17 +107,17 @@ impl<W: Write + Drop> Listing<W> {
     }
 
     pub(crate) fn refused(&mut self, fault: &Fault) -> Result<()> {
-        lines::refused(&mut self.out, fault)
+        lines::refused(&mut self.text, fault)
     }
 
     pub(crate) fn finish(&mut self, end: &std::result::Result<(), Fault>) -> Result<()> {
-        lines::finish(&mut self.out, end)
+        lines::finish(&mut self.text, end)
     }
 }
 
 // The lines of a list: those of its items that a table holds, and of any others that are asked for.
 fn items<W, T: Copy, A: Fn(usize) -> Option<T>, L: Fn(&mut W, usize, &T) -> Result<()>>(
-    out: &mut W,
+    text: &mut W,
     count: usize,
     table: &[T],
     ask: A,
@@ -127,7 +128,7 @@ fn items<W, T: Copy, A: Fn(usize) -> Option<T>, L: Fn(&mut W, usize, &T) -> Resu
 {
     for k in 0..count {
         if let Some(item) = table.get(k).copied().or_else(|| ask(k)) {
-            line(out, k, &item)?;
+            line(text, k, &item)?;
         }
     }
     Ok(())

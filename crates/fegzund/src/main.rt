@@ -5,6 +5,7 @@ mod inspect;
 mod lines;
 mod listing;
 mod options;
+mod text;
 
 use crate::inspect::inspect;
 use crate::options::{Command, HELP, parse};
