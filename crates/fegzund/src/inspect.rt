@@ -9,7 +9,7 @@ use slip::Slip;
 use std::alloc::Global;
 use std::fs::File;
 use std::io;
-use std::io::{BufWriter, Read, Write};
+use std::io::{Read, Write};
 use std::process::ExitCode;
 use std::rt::Files;
 
@@ -64,8 +64,7 @@ fn list<R: Print + AllocGlobal, F: Reading, S: Read + Drop>(
     options: &Options,
     mut source: S,
 ) -> Result<Verdict> {
-    let out = BufWriter::with_capacity(rt.alloc(), 65536, io::writer(rt))?;
-    let mut inspection = Inspection::new(rt.alloc(), reading, options, out)?;
+    let mut inspection = Inspection::new(rt.alloc(), reading, options, io::writer(rt))?;
     let mut block = vec![in rt.alloc(); 0u8; BLOCK]?;
     for _ in 0..u64::MAX {
         let n = match source.read(&mut block) {

@@ -1,4 +1,6 @@
 // The lines of a listing.
+ghost use Rattle.std.specs.Prelude.{◌≤◌};
+
 use crate::text::Text;
 use framing::FrameHead;
 use message::{BatchFacts, Buffer, Fault, Header, Node, Place, Row};
@@ -16,50 +18,56 @@ fn header_type(header: &Header) -> u8 {
 }
 
 // The number and the place of a frame.
-fn placed<W: Write + Drop>(text: &mut Text<W>, word: &str, place: &Place) -> Result<()> {
+fn placed<const N: usize, W: Write + Drop>(
+    text: &mut Text<W>,
+    word: &[u8; N],
+    place: &Place,
+) -> Result<()>
+    requires { N ≤ 256 }
+{
     text.number(word, place.message)?;
-    text.number(" position ", place.position)
+    text.number(b" position ", place.position)
 }
 
 pub(crate) fn end_mark<W: Write + Drop>(text: &mut Text<W>, place: &Place) -> Result<()> {
-    placed(text, "end ", place)?;
-    text.word("\n")
+    placed(text, b"end ", place)?;
+    text.word(b"\n")
 }
 
 pub(crate) fn frame<W: Write + Drop>(text: &mut Text<W>, head: &FrameHead) -> Result<()> {
-    placed(text, "frame ", &head.place)?;
-    text.mark(" marker ", head.marked)?;
-    text.number(" size ", head.size)?;
-    text.number(" version ", head.facts.version)?;
-    text.number(" type ", header_type(&head.facts.header))?;
-    text.number(" body ", head.body)?;
-    text.word("\n")
+    placed(text, b"frame ", &head.place)?;
+    text.mark(b" marker ", head.marked)?;
+    text.number(b" size ", head.size as u64)?;
+    text.signed(b" version ", i64::from(head.facts.version))?;
+    text.number(b" type ", u64::from(header_type(&head.facts.header)))?;
+    text.number(b" body ", head.body as u64)?;
+    text.word(b"\n")
 }
 
 pub(crate) fn row<W: Write + Drop>(text: &mut Text<W>, k: usize, row: &Row) -> Result<()> {
-    text.number("row ", k)?;
-    text.number(" kind ", row.kind)?;
-    text.number(" flag ", row.flag)?;
-    text.number(" tag ", row.tag)?;
-    text.number(" parameter ", row.parameter)?;
-    text.number(" id ", row.id)?;
-    text.number(" end ", row.end)?;
-    text.word("\n")
+    text.number(b"row ", k as u64)?;
+    text.number(b" kind ", u64::from(row.kind))?;
+    text.number(b" flag ", u64::from(row.flag))?;
+    text.number(b" tag ", u64::from(row.tag))?;
+    text.number(b" parameter ", u64::from(row.parameter))?;
+    text.signed(b" id ", row.id)?;
+    text.number(b" end ", u64::from(row.end))?;
+    text.word(b"\n")
 }
 
 // What a batch says of itself, up to the end of the line.
 fn facts<W: Write + Drop>(text: &mut Text<W>, facts: &BatchFacts) -> Result<()> {
-    text.number(" length ", facts.length)?;
-    text.mark(" compressed ", facts.compressed)?;
-    text.mark(" missing ", facts.missing)?;
-    text.number(" nodes ", facts.nodes)?;
-    text.number(" buffers ", facts.buffers)?;
-    text.number(" counts ", facts.counts)?;
-    text.word("\n")
+    text.signed(b" length ", facts.length)?;
+    text.mark(b" compressed ", facts.compressed)?;
+    text.mark(b" missing ", facts.missing)?;
+    text.number(b" nodes ", facts.nodes as u64)?;
+    text.number(b" buffers ", facts.buffers as u64)?;
+    text.number(b" counts ", facts.counts as u64)?;
+    text.word(b"\n")
 }
 
 pub(crate) fn batch<W: Write + Drop>(text: &mut Text<W>, data: &BatchFacts) -> Result<()> {
-    text.word("batch")?;
+    text.word(b"batch")?;
     facts(text, data)
 }
 
@@ -69,37 +77,37 @@ pub(crate) fn dictionary<W: Write + Drop>(
     delta: bool,
     data: &BatchFacts,
 ) -> Result<()> {
-    text.number("dictionary id ", id)?;
-    text.mark(" delta ", delta)?;
+    text.signed(b"dictionary id ", id)?;
+    text.mark(b" delta ", delta)?;
     facts(text, data)
 }
 
 pub(crate) fn node<W: Write + Drop>(text: &mut Text<W>, k: usize, node: &Node) -> Result<()> {
-    text.number("node ", k)?;
-    text.number(" length ", node.length)?;
-    text.number(" nulls ", node.nulls)?;
-    text.word("\n")
+    text.number(b"node ", k as u64)?;
+    text.signed(b" length ", node.length)?;
+    text.signed(b" nulls ", node.nulls)?;
+    text.word(b"\n")
 }
 
 pub(crate) fn buffer<W: Write + Drop>(text: &mut Text<W>, k: usize, buffer: &Buffer) -> Result<()> {
-    text.number("buffer ", k)?;
-    text.number(" offset ", buffer.offset)?;
-    text.number(" length ", buffer.length)?;
-    text.word("\n")
+    text.number(b"buffer ", k as u64)?;
+    text.signed(b" offset ", buffer.offset)?;
+    text.signed(b" length ", buffer.length)?;
+    text.word(b"\n")
 }
 
 pub(crate) fn count<W: Write + Drop>(text: &mut Text<W>, k: usize, value: &i64) -> Result<()> {
-    text.number("count ", k)?;
-    text.number(" value ", *value)?;
-    text.word("\n")
+    text.number(b"count ", k as u64)?;
+    text.signed(b" value ", *value)?;
+    text.word(b"\n")
 }
 
 pub(crate) fn refused<W: Write + Drop>(text: &mut Text<W>, fault: &Fault) -> Result<()> {
-    text.number("refused ", fault.refusal.number())?;
+    text.number(b"refused ", u64::from(fault.refusal.number()))?;
     if let Some(place) = &fault.place {
-        placed(text, " message ", place)?;
+        placed(text, b" message ", place)?;
     }
-    text.word("\n")
+    text.word(b"\n")
 }
 
 pub(crate) fn finish<W: Write + Drop>(
@@ -107,10 +115,10 @@ pub(crate) fn finish<W: Write + Drop>(
     end: &std::result::Result<(), Fault>,
 ) -> Result<()> {
     match end {
-        Ok(()) => text.word("finish ok\n"),
+        Ok(()) => text.word(b"finish ok\n"),
         Err(fault) => {
-            text.number("finish refused ", fault.refusal.number())?;
-            text.word("\n")
+            text.number(b"finish refused ", u64::from(fault.refusal.number()))?;
+            text.word(b"\n")
         }
     }
 }
