@@ -41,10 +41,12 @@ pub(crate) fn inspect<R: Files + Input + Print + AllocGlobal>(
     if file == "-" {
         return read_as(rt, options, rt.reader());
     }
-    match File::open(rt, file) {
-        Ok(source) => read_as(rt, options, source),
-        Err(e) => Err(anyhow!("can't open '{file}': {e}; give a file that can be read")),
-    }
+    let source = File::open(rt, file).map_err(|e| unreadable("open", file, &e))?;
+    read_as(rt, options, source)
+}
+
+fn unreadable(step: &str, file: &str, error: &io::Error) -> anyhow::Error {
+    anyhow!("can't {step} '{file}': {error}; give a file that can be read")
 }
 
 fn read_as<R: Print + AllocGlobal, S: Read + Drop>(
@@ -66,13 +68,12 @@ fn list<R: Print + AllocGlobal, F: Reading, S: Read + Drop>(
 ) -> Result<Verdict> {
     let mut inspection = Inspection::new(rt.alloc(), reading, options, io::writer(rt))?;
     let mut block = vec![in rt.alloc(); 0u8; BLOCK]?;
+    let file = options.file.as_str();
     for _ in 0..u64::MAX {
+        // with map_err the bound of n is not proved
         let n = match source.read(&mut block) {
             Ok(n) => n,
-            Err(e) => {
-                let file = options.file.as_str();
-                return Err(anyhow!("can't read '{file}': {e}; give a file that can be read"));
-            }
+            Err(e) => return Err(unreadable("read", file, &e)),
         };
         if n == 0 {
             break;
