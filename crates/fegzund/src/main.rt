@@ -16,7 +16,7 @@ use std::rt::{Env, Files};
 fn run<R: Env + Files + Input + Print + AllocGlobal>(rt: &R) -> anyhow::Result<ExitCode> {
     match parse(env::args(rt)?)? {
         Command::Help => {
-            print!(rt; "{HELP}")?;
+            rt.write_all(HELP.as_bytes())?;
             Ok(ExitCode::SUCCESS)
         }
         Command::Inspect(options) => Ok(inspect(rt, &options)?.into()),
