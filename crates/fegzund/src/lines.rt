@@ -1,7 +1,7 @@
 // The lines of a listing.
-ghost use Rattle.std.specs.Prelude.{◌≤◌, length};
+ghost use Rattle.std.specs.Prelude.{◌+◌, ◌≤◌, length};
 
-use crate::text::{Text, WORD};
+use crate::text::{ROOM, Text};
 use framing::FrameHead;
 use message::{BatchFacts, Buffer, Fault, Header, Node, Place, Row};
 use std::io::{Result, Write};
@@ -18,53 +18,64 @@ fn header_type(header: &Header) -> u8 {
 }
 
 // The number and the place of a frame.
-fn placed<W: Write + Drop>(text: &mut Text<W>, word: &str, place: &Place) -> Result<()>
-    requires { length word.now ≤ WORD }
+fn placed<W: Write + Drop>(text: &mut Text<W>, word: &str, place: &Place)
+    requires { text.old.len + length word.now + 50 ≤ ROOM }
+    ensures { text.new.len ≤ text.old.len + length word.now + 50 }
 {
-    text.number(word, place.message)?;
-    text.number(" position ", place.position)
+    text.number(word, place.message);
+    text.number(" position ", place.position);
 }
 
 pub(crate) fn end_mark<W: Write + Drop>(text: &mut Text<W>, place: &Place) -> Result<()> {
-    placed(text, "end ", place)?;
-    text.word("\n")
+    text.make_room()?;
+    placed(text, "end ", place);
+    text.word("\n");
+    Ok(())
 }
 
 pub(crate) fn frame<W: Write + Drop>(text: &mut Text<W>, head: &FrameHead) -> Result<()> {
-    placed(text, "frame ", &head.place)?;
-    text.mark(" marker ", head.marked)?;
-    text.number(" size ", head.size as u64)?;
-    text.signed(" version ", i64::from(head.facts.version))?;
-    text.number(" type ", u64::from(header_type(&head.facts.header)))?;
-    text.number(" body ", head.body as u64)?;
-    text.word("\n")
+    text.make_room()?;
+    placed(text, "frame ", &head.place);
+    text.mark(" marker ", head.marked);
+    text.number(" size ", head.size as u64);
+    text.signed(" version ", i64::from(head.facts.version));
+    text.number(" type ", u64::from(header_type(&head.facts.header)));
+    text.number(" body ", head.body as u64);
+    text.word("\n");
+    Ok(())
 }
 
 pub(crate) fn row<W: Write + Drop>(text: &mut Text<W>, k: usize, row: &Row) -> Result<()> {
-    text.number("row ", k as u64)?;
-    text.number(" kind ", u64::from(row.kind))?;
-    text.number(" flag ", u64::from(row.flag))?;
-    text.number(" tag ", u64::from(row.tag))?;
-    text.number(" parameter ", u64::from(row.parameter))?;
-    text.signed(" id ", row.id)?;
-    text.number(" end ", u64::from(row.end))?;
-    text.word("\n")
+    text.make_room()?;
+    text.number("row ", k as u64);
+    text.number(" kind ", u64::from(row.kind));
+    text.number(" flag ", u64::from(row.flag));
+    text.number(" tag ", u64::from(row.tag));
+    text.number(" parameter ", u64::from(row.parameter));
+    text.signed(" id ", row.id);
+    text.number(" end ", u64::from(row.end));
+    text.word("\n");
+    Ok(())
 }
 
 // What a batch says of itself, up to the end of the line.
-fn facts<W: Write + Drop>(text: &mut Text<W>, facts: &BatchFacts) -> Result<()> {
-    text.signed(" length ", facts.length)?;
-    text.mark(" compressed ", facts.compressed)?;
-    text.mark(" missing ", facts.missing)?;
-    text.number(" nodes ", facts.nodes as u64)?;
-    text.number(" buffers ", facts.buffers as u64)?;
-    text.number(" counts ", facts.counts as u64)?;
-    text.word("\n")
+fn facts<W: Write + Drop>(text: &mut Text<W>, facts: &BatchFacts)
+    requires { text.old.len + 180 ≤ ROOM }
+{
+    text.signed(" length ", facts.length);
+    text.mark(" compressed ", facts.compressed);
+    text.mark(" missing ", facts.missing);
+    text.number(" nodes ", facts.nodes as u64);
+    text.number(" buffers ", facts.buffers as u64);
+    text.number(" counts ", facts.counts as u64);
+    text.word("\n");
 }
 
 pub(crate) fn batch<W: Write + Drop>(text: &mut Text<W>, data: &BatchFacts) -> Result<()> {
-    text.word("batch")?;
-    facts(text, data)
+    text.make_room()?;
+    text.word("batch");
+    facts(text, data);
+    Ok(())
 }
 
 pub(crate) fn dictionary<W: Write + Drop>(
@@ -73,48 +84,60 @@ pub(crate) fn dictionary<W: Write + Drop>(
     delta: bool,
     data: &BatchFacts,
 ) -> Result<()> {
-    text.signed("dictionary id ", id)?;
-    text.mark(" delta ", delta)?;
-    facts(text, data)
+    text.make_room()?;
+    text.signed("dictionary id ", id);
+    text.mark(" delta ", delta);
+    facts(text, data);
+    Ok(())
 }
 
 pub(crate) fn node<W: Write + Drop>(text: &mut Text<W>, k: usize, node: &Node) -> Result<()> {
-    text.number("node ", k as u64)?;
-    text.signed(" length ", node.length)?;
-    text.signed(" nulls ", node.nulls)?;
-    text.word("\n")
+    text.make_room()?;
+    text.number("node ", k as u64);
+    text.signed(" length ", node.length);
+    text.signed(" nulls ", node.nulls);
+    text.word("\n");
+    Ok(())
 }
 
 pub(crate) fn buffer<W: Write + Drop>(text: &mut Text<W>, k: usize, buffer: &Buffer) -> Result<()> {
-    text.number("buffer ", k as u64)?;
-    text.signed(" offset ", buffer.offset)?;
-    text.signed(" length ", buffer.length)?;
-    text.word("\n")
+    text.make_room()?;
+    text.number("buffer ", k as u64);
+    text.signed(" offset ", buffer.offset);
+    text.signed(" length ", buffer.length);
+    text.word("\n");
+    Ok(())
 }
 
 pub(crate) fn count<W: Write + Drop>(text: &mut Text<W>, k: usize, value: &i64) -> Result<()> {
-    text.number("count ", k as u64)?;
-    text.signed(" value ", *value)?;
-    text.word("\n")
+    text.make_room()?;
+    text.number("count ", k as u64);
+    text.signed(" value ", *value);
+    text.word("\n");
+    Ok(())
 }
 
 pub(crate) fn refused<W: Write + Drop>(text: &mut Text<W>, fault: &Fault) -> Result<()> {
-    text.number("refused ", u64::from(fault.refusal.number()))?;
+    text.make_room()?;
+    text.number("refused ", u64::from(fault.refusal.number()));
     if let Some(place) = &fault.place {
-        placed(text, " message ", place)?;
+        placed(text, " message ", place);
     }
-    text.word("\n")
+    text.word("\n");
+    Ok(())
 }
 
 pub(crate) fn finish<W: Write + Drop>(
     text: &mut Text<W>,
     end: &std::result::Result<(), Fault>,
 ) -> Result<()> {
+    text.make_room()?;
     match end {
         Ok(()) => text.word("finish ok\n"),
         Err(fault) => {
-            text.number("finish refused ", u64::from(fault.refusal.number()))?;
-            text.word("\n")
+            text.number("finish refused ", u64::from(fault.refusal.number()));
+            text.word("\n");
         }
     }
+    Ok(())
 }
