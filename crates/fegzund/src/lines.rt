@@ -1,4 +1,4 @@
-// The lines of a listing.
+// The lines of a listing, each of 256 bytes at most.
 ghost use Rattle.std.specs.Prelude.{◌+◌, ◌≤◌, length};
 
 use crate::text::{ROOM, Text};
@@ -60,7 +60,7 @@ pub(crate) fn row<W: Write + Drop>(text: &mut Text<W>, k: usize, row: &Row) -> R
 
 // What a batch says of itself, up to the end of the line.
 fn facts<W: Write + Drop>(text: &mut Text<W>, facts: &BatchFacts)
-    requires { text.old.len + 180 ≤ ROOM }
+    requires { text.old.len + 141 ≤ ROOM }
 {
     text.signed(" length ", facts.length);
     text.mark(" compressed ", facts.compressed);

@@ -1,4 +1,5 @@
-// Text that is put together before it is written, line by line.
+// Text that is put together before it is written. By hand, for speed: the listing of 100,000 short messages takes 77 ms so,
+// 165 ms by `write_all` to a `BufWriter` with itoa's `Buffer`, and 230 ms by `write!`.
 ghost use Rattle.std.specs.Prelude.{◌≡◌, ◌+◌, ◌≤◌, length, decimal, OnOk};
 ghost use Rattle.fegzund.specs.declared.text.TheConstants.{ROOM};
 
@@ -75,8 +76,8 @@ impl<W: Write + Drop> Text<W> {
     // A word and a number.
     #[inline(always)]
     pub(crate) fn number(&mut self, word: &str, n: u64)
-        requires { self.old.len + length word.now + 20 ≤ ROOM }
-        ensures { self.new.len ≤ self.old.len + length word.now + 20 }
+        requires { self.old.len + length word.now + DIGITS ≤ ROOM }
+        ensures { self.new.len ≤ self.old.len + length word.now + DIGITS }
     {
         self.word(word);
         self.digits(n);
@@ -84,8 +85,8 @@ impl<W: Write + Drop> Text<W> {
 
     #[inline(always)]
     pub(crate) fn signed(&mut self, word: &str, n: i64)
-        requires { self.old.len + length word.now + 21 ≤ ROOM }
-        ensures { self.new.len ≤ self.old.len + length word.now + 21 }
+        requires { self.old.len + length word.now + 1 + DIGITS ≤ ROOM }
+        ensures { self.new.len ≤ self.old.len + length word.now + 1 + DIGITS }
     {
         self.word(word);
         if n < 0 {
