@@ -70,7 +70,7 @@ fn list<R: Print + AllocGlobal, F: Reading, S: Read + Drop>(
     let mut block = vec![in rt.alloc(); 0u8; BLOCK]?;
     let file = options.file.as_str();
     for _ in 0..u64::MAX {
-        // with map_err the bound of n is not proved
+        // no map_err: tried, and the bound on n was not proved behind it
         let n = match source.read(&mut block) {
             Ok(n) => n,
             Err(e) => return Err(unreadable("read", file, &e)),

@@ -4,7 +4,8 @@ ghost use Rattle.std.specs.Prelude.{◌+◌, ◌≤◌, length};
 use crate::text::{ROOM, Text};
 use framing::FrameHead;
 use message::{BatchFacts, Buffer, Fault, Header, Node, Place, Row};
-use std::io::{Result, Write};
+use std::io;
+use std::io::Write;
 
 // The number of a header type.
 fn header_type(header: &Header) -> u8 {
@@ -26,14 +27,14 @@ fn placed<W: Write + Drop>(text: &mut Text<W>, word: &str, place: &Place)
     text.number(" position ", place.position);
 }
 
-pub(crate) fn end_mark<W: Write + Drop>(text: &mut Text<W>, place: &Place) -> Result<()> {
+pub(crate) fn end_mark<W: Write + Drop>(text: &mut Text<W>, place: &Place) -> io::Result<()> {
     text.make_room()?;
     placed(text, "end ", place);
     text.word("\n");
     Ok(())
 }
 
-pub(crate) fn frame<W: Write + Drop>(text: &mut Text<W>, head: &FrameHead) -> Result<()> {
+pub(crate) fn frame<W: Write + Drop>(text: &mut Text<W>, head: &FrameHead) -> io::Result<()> {
     text.make_room()?;
     placed(text, "frame ", &head.place);
     text.mark(" marker ", head.marked);
@@ -45,7 +46,7 @@ pub(crate) fn frame<W: Write + Drop>(text: &mut Text<W>, head: &FrameHead) -> Re
     Ok(())
 }
 
-pub(crate) fn row<W: Write + Drop>(text: &mut Text<W>, k: usize, row: &Row) -> Result<()> {
+pub(crate) fn row<W: Write + Drop>(text: &mut Text<W>, k: usize, row: &Row) -> io::Result<()> {
     text.make_room()?;
     text.number("row ", k as u64);
     text.number(" kind ", u64::from(row.kind));
@@ -71,7 +72,7 @@ fn facts<W: Write + Drop>(text: &mut Text<W>, facts: &BatchFacts)
     text.word("\n");
 }
 
-pub(crate) fn batch<W: Write + Drop>(text: &mut Text<W>, data: &BatchFacts) -> Result<()> {
+pub(crate) fn batch<W: Write + Drop>(text: &mut Text<W>, data: &BatchFacts) -> io::Result<()> {
     text.make_room()?;
     text.word("batch");
     facts(text, data);
@@ -83,7 +84,7 @@ pub(crate) fn dictionary<W: Write + Drop>(
     id: i64,
     delta: bool,
     data: &BatchFacts,
-) -> Result<()> {
+) -> io::Result<()> {
     text.make_room()?;
     text.signed("dictionary id ", id);
     text.mark(" delta ", delta);
@@ -91,7 +92,7 @@ pub(crate) fn dictionary<W: Write + Drop>(
     Ok(())
 }
 
-pub(crate) fn node<W: Write + Drop>(text: &mut Text<W>, k: usize, node: &Node) -> Result<()> {
+pub(crate) fn node<W: Write + Drop>(text: &mut Text<W>, k: usize, node: &Node) -> io::Result<()> {
     text.make_room()?;
     text.number("node ", k as u64);
     text.signed(" length ", node.length);
@@ -100,7 +101,11 @@ pub(crate) fn node<W: Write + Drop>(text: &mut Text<W>, k: usize, node: &Node) -
     Ok(())
 }
 
-pub(crate) fn buffer<W: Write + Drop>(text: &mut Text<W>, k: usize, buffer: &Buffer) -> Result<()> {
+pub(crate) fn buffer<W: Write + Drop>(
+    text: &mut Text<W>,
+    k: usize,
+    buffer: &Buffer,
+) -> io::Result<()> {
     text.make_room()?;
     text.number("buffer ", k as u64);
     text.signed(" offset ", buffer.offset);
@@ -109,7 +114,7 @@ pub(crate) fn buffer<W: Write + Drop>(text: &mut Text<W>, k: usize, buffer: &Buf
     Ok(())
 }
 
-pub(crate) fn count<W: Write + Drop>(text: &mut Text<W>, k: usize, value: &i64) -> Result<()> {
+pub(crate) fn count<W: Write + Drop>(text: &mut Text<W>, k: usize, value: &i64) -> io::Result<()> {
     text.make_room()?;
     text.number("count ", k as u64);
     text.signed(" value ", *value);
@@ -117,7 +122,7 @@ pub(crate) fn count<W: Write + Drop>(text: &mut Text<W>, k: usize, value: &i64) 
     Ok(())
 }
 
-pub(crate) fn refused<W: Write + Drop>(text: &mut Text<W>, fault: &Fault) -> Result<()> {
+pub(crate) fn refused<W: Write + Drop>(text: &mut Text<W>, fault: &Fault) -> io::Result<()> {
     text.make_room()?;
     text.number("refused ", u64::from(fault.refusal.number()));
     if let Some(place) = &fault.place {
@@ -129,8 +134,8 @@ pub(crate) fn refused<W: Write + Drop>(text: &mut Text<W>, fault: &Fault) -> Res
 
 pub(crate) fn finish<W: Write + Drop>(
     text: &mut Text<W>,
-    end: &std::result::Result<(), Fault>,
-) -> Result<()> {
+    end: &Result<(), Fault>,
+) -> io::Result<()> {
     text.make_room()?;
     match end {
         Ok(()) => text.word("finish ok\n"),

@@ -3,10 +3,14 @@ use crate::lines;
 use crate::text::Text;
 use framing::FrameHead;
 use message::{BatchFacts, Buffer, Fault, Header, NO_ROW, Node, Place, Reading};
-use std::io::{Result, Write};
+use std::io;
+use std::io::Write;
 
 // How many items of a list are asked for at once.
 const ITEMS: usize = 64;
+
+// How many rows of a schema are asked for at once.
+const ROWS: usize = 256;
 
 // The metadata of a message, and how they are read.
 #[derive(Drop)]
@@ -40,11 +44,11 @@ impl<W: Write + Drop> Listing<W> {
         }
     }
 
-    pub(crate) fn flush(&mut self) -> Result<()> {
+    pub(crate) fn flush(&mut self) -> io::Result<()> {
         self.text.flush()
     }
 
-    pub(crate) fn end_mark(&mut self, place: &Place) -> Result<()> {
+    pub(crate) fn end_mark(&mut self, place: &Place) -> io::Result<()> {
         lines::end_mark(&mut self.text, place)
     }
 
@@ -52,7 +56,7 @@ impl<W: Write + Drop> Listing<W> {
         &mut self,
         head: &FrameHead,
         message: &Message<'_, F>,
-    ) -> Result<()> {
+    ) -> io::Result<()> {
         lines::frame(&mut self.text, head)?;
         match &head.facts.header {
             Header::Schema { rows } => self.rows(message, *rows),
@@ -68,8 +72,8 @@ impl<W: Write + Drop> Listing<W> {
         }
     }
 
-    fn rows<F: Reading>(&mut self, message: &Message<'_, F>, count: usize) -> Result<()> {
-        let mut table = [NO_ROW; 256];
+    fn rows<F: Reading>(&mut self, message: &Message<'_, F>, count: usize) -> io::Result<()> {
+        let mut table = [NO_ROW; ROWS];
         let n = message.reading.rows(message.bytes, &mut table);
         items(
             &mut self.text,
@@ -80,7 +84,11 @@ impl<W: Write + Drop> Listing<W> {
         )
     }
 
-    fn lists<F: Reading>(&mut self, message: &Message<'_, F>, facts: &BatchFacts) -> Result<()> {
+    fn lists<F: Reading>(
+        &mut self,
+        message: &Message<'_, F>,
+        facts: &BatchFacts,
+    ) -> io::Result<()> {
         let Message { reading, bytes } = message;
         let sizes = reading.lists(bytes, &mut self.nodes, &mut self.buffers, &mut self.counts);
         items(
@@ -106,23 +114,23 @@ impl<W: Write + Drop> Listing<W> {
         )
     }
 
-    pub(crate) fn refused(&mut self, fault: &Fault) -> Result<()> {
+    pub(crate) fn refused(&mut self, fault: &Fault) -> io::Result<()> {
         lines::refused(&mut self.text, fault)
     }
 
-    pub(crate) fn finish(&mut self, end: &std::result::Result<(), Fault>) -> Result<()> {
+    pub(crate) fn finish(&mut self, end: &Result<(), Fault>) -> io::Result<()> {
         lines::finish(&mut self.text, end)
     }
 }
 
 // The lines of a list: those of its items that a table holds, and of any others that are asked for.
-fn items<W, T: Copy, A: Fn(usize) -> Option<T>, L: Fn(&mut W, usize, &T) -> Result<()>>(
+fn items<W, T: Copy, A: Fn(usize) -> Option<T>, L: Fn(&mut W, usize, &T) -> io::Result<()>>(
     text: &mut W,
     count: usize,
     table: &[T],
     ask: A,
     line: L,
-) -> Result<()>
+) -> io::Result<()>
     requires asks { A.IsAlwaysCallable ask }
     requires writes { L.IsAlwaysCallable line }
 {
