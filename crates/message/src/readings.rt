@@ -21,7 +21,7 @@ pub struct ListSizes {
     pub counts: usize,
 }
 
-// A reading answers what its meaning gives for the bytes, and a question changes nothing.
+/// A reading answers what its meaning gives for the bytes, and a question changes nothing.
 pub trait Reading {
     ghost meaning: { Self → List ℕ → Read };
 
@@ -31,6 +31,7 @@ pub trait Reading {
     fn row(&self, bytes: &[u8], k: usize) -> Option<Row>
         ensures { result ≡ slice_get (rows_of (meaning self.now bytes.now)) k };
 
+    // Three questions, and not one over the item's type: a reading has each list in another place.
     fn node(&self, bytes: &[u8], k: usize) -> Option<Node>
         ensures { result ≡ slice_get (nodes_of (meaning self.now bytes.now)) k };
 

@@ -10,7 +10,8 @@ use little::{Little, bytes_at};
 /// One field of a schema, in preorder.
 #[derive(Clone, Copy, Debug, Default, PartialEq, Eq, Hash)]
 pub struct Row {
-    // 1 to 15 for the Arrow types that are read, 0 for any other
+    // 1 to 15 for the Arrow types that are read, 0 for any other; a number, since a slip's rows may have any byte here, and
+    // the listing prints it
     pub kind: u8,
     pub flag: u8,
     // the type id by which the union above selects this child
