@@ -1,5 +1,5 @@
 // One field of a schema, in preorder.
-#[derive(Clone, Copy)]
+#[derive(Clone, Copy, Debug, Default, PartialEq, Eq, Hash)]
 pub struct Row {
     // 1 to 15 for the Arrow types that are read, 0 for any other
     pub kind: u8,
