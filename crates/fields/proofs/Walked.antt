@@ -1,5 +1,5 @@
 -- Fields read into a table, step by step.
-use Rattle.std.proofs.Common.{◌≡◌, ℕ, zero, suc, ◌+◌, ◌-◌, ◌<◌, ◌≤◌, List, [], ◌∷◌, ◌++◌, length, set, pos, Some, None, Option, sym, refl, ap, ◌∙◌, subst, append_assoc, append-nil, arith, length-append, length-set}
+use Rattle.std.proofs.Common.{◌≡◌, ℕ, zero, suc, ◌+◌, ◌-◌, ◌<◌, ◌≤◌, List, [], ◌∷◌, ◌++◌, length, set, pos, Some, None, Ok, Err, IsErr, Option, Result, sym, refl, ap, ◌∙◌, subst, append_assoc, append-nil, arith, length-append}
 use Rattle.std.specs.Option.{option_map}
 use Rattle.std.proofs.lemmas.List.{set_at}
 use Rattle.little.specs.Maybe.{and_then}
@@ -9,12 +9,30 @@ use Rattle.types.specs.declared.shapes.Tags.{Tags}
 use Rattle.types.specs.declared.shapes.Typed.{Typed}
 use Rattle.fields.specs.declared.parts.Field.{Field}
 use Rattle.fields.specs.declared.parts.Index.{Index}
+use Rattle.fields.specs.declared.parts.Refused.{Refused}
 use Rattle.fields.specs.Fields.{field_at, tag_of}
 use Rattle.fields.specs.Walks.{Walk, child_rows, kids_of, row_of, plain_rows, index_rows, field_rows, walk_at, Reads}
 
--- nothing comes of fields that are refused
-pub refused : (o : Option (List Row)) (xs xs' : List Row) → o ≡ None → Reads o None xs xs'
-refused o xs xs' e rows d = let z : ◌≡◌ {A = ℕ} 0 1 = cc in absurd (omega arith)
+-- no rows, or more than there is room for
+pub record Over (o : Option (List Row)) (xs : List Row) : Type 0 where
+  pub over : (rows : List Row) → o ≡ Some rows → 256 < length xs + length rows
+
+pub none_over : {o : Option (List Row)} {xs : List Row} → o ≡ None → Over o xs
+none_over e = record { over = λ rows d. let z : ◌≡◌ {A = ℕ} 0 1 = cc in absurd (omega arith) }
+
+pub refused : (r : Result (Unit {0}) Refused) {o : Option (List Row)} {xs : List Row} (xs' : List Row) → IsErr r → Over o xs → Reads o r xs xs'
+refused (Ok u) xs' e h = cc
+refused (Err f) xs' e h = h.over
+
+-- the same rows under another name
+pub reads_as : {o q : Option (List Row)} (r : Result (Unit {0}) Refused) (xs xs' : List Row) → o ≡ q → Reads q r xs xs' → Reads o r xs xs'
+reads_as r xs xs' e got = subst (λ u. Reads u r xs xs') (sym e) got
+
+-- the children so far are in the table, and what is left gives the others
+pub record Sofar (walk : Walk) (bs : List ℕ) (tags : Tags) (at n k : ℕ) (xs₀ xs : List Row) : Type 0 where
+  pub done : List Row
+  pub table : xs ≡ xs₀ ++ done
+  pub left : child_rows walk bs tags at n 0 (length xs₀) ≡ option_map (λ more. done ++ more) (child_rows walk bs tags at (n - k) k (length xs))
 
 module _ (walk : Walk) (bs : List ℕ) (tags : Tags) (at : ℕ) where
   abbrev kids : ℕ → ℕ → ℕ → Option (List Row)
@@ -27,65 +45,65 @@ module _ (walk : Walk) (bs : List ℕ) (tags : Tags) (at : ℕ) where
       let d : suc n - 1 ≡ n = omega arith in
       rw (d, e)
 
-  -- the invariant of the loop over the children: those so far are in the table, and what is left gives the others
-  abbrev pub Sofar : ℕ → ℕ → List Row → List Row → Type 0
-  Sofar n k xs₀ xs = (done : List Row) × (xs ≡ xs₀ ++ done) × (kids n 0 (length xs₀) ≡ option_map (λ more. done ++ more) (kids (n - k) k (length xs)))
-
-  pub no_item : (n k : ℕ) (xs₀ xs xs' : List Row) → Sofar n k xs₀ xs → k < n → None ≡ item_of bs at k → Reads (kids n 0 (length xs₀)) None xs₀ xs'
-  no_item n k xs₀ xs xs' inv h e =
-      refused (kids n 0 (length xs₀)) xs₀ xs' (inv.2 ∙ ap (option_map (λ more. inv.0 ++ more)) (kids_by (n - k) k (length xs) None (omega arith) e))
-
-  -- more rows than there is room for stay too many
-  over_more : (o : Option (List Row)) (b : ℕ) (rest : List Row → Option (List Row)) (done more : List Row) → ((rows : List Row) → o ≡ Some rows → 256 < b + length rows) → option_map (λ m. done ++ m) (and_then o (λ rows. option_map (λ m. rows ++ m) (rest rows))) ≡ Some more → 256 + length done < b + length more
-  over_more None b rest done more h e = let z : ◌≡◌ {A = ℕ} 0 1 = cc in absurd (omega arith)
-  over_more (Some rows) b rest done more h e = over_rest (rest rows) e (h rows refl) where
-    over_rest : (r : Option (List Row)) → option_map (λ m. done ++ m) (option_map (λ m. rows ++ m) r) ≡ Some more → 256 < b + length rows → 256 + length done < b + length more
-    over_rest None e h = let z : ◌≡◌ {A = ℕ} 0 1 = cc in absurd (omega arith)
-    over_rest (Some r) e h =
-        let d : more ≡ done ++ (rows ++ r) = cc in
-        let l = ap length d ∙ length-append done (rows ++ r) in
-        let m = length-append rows r in
-        omega (arith, l, m)
-
-  pub field_over : (n k p tag : ℕ) (xs₀ xs xs' : List Row) → Sofar n k xs₀ xs → k < n → Some p ≡ item_of bs at k → tag ≡ tag_of bs tags k → Reads (walk (length xs) p tag) None xs xs' → Reads (kids n 0 (length xs₀)) None xs₀ xs'
-  field_over n k p tag xs₀ xs xs' inv h e g over' rows d =
-      let over = subst (λ j. Reads (walk (length xs) p j) None xs xs') g over' in
-      let by = kids_by (n - k) k (length xs) (Some p) (omega arith) e in
-      let all = ap (option_map (λ more. inv.0 ++ more)) (sym by) ∙ sym inv.2 ∙ d in
-      let long = ap length inv.1 ∙ length-append xs₀ inv.0 in
-      let l = over_more (walk (length xs) p (tag_of bs tags k)) (length xs) (λ rs. kids (n - k - 1) (k + 1) (length xs + length rs)) inv.0 rows over all in
-      omega (arith, l, long)
-
-  mapped_twice : (o : Option (List Row)) (a b : List Row) → option_map (λ m. a ++ m) (option_map (λ m. b ++ m) o) ≡ option_map (λ m. (a ++ b) ++ m) o
-  mapped_twice None a b = refl
-  mapped_twice (Some x) a b = ap Some (sym (append_assoc a b x))
-
-  pub field_read : (n k p tag : ℕ) (xs₀ xs xs' : List Row) → Sofar n k xs₀ xs → k < n → Some p ≡ item_of bs at k → tag ≡ tag_of bs tags k → Reads (walk (length xs) p tag) (Some tt) xs xs' → Sofar n (k + 1) xs₀ xs'
-  field_read n k p tag xs₀ xs xs' inv h e g got' =
-      let got = subst (λ j. Reads (walk (length xs) p j) (Some tt) xs xs') g got' in
-      let rs = got.0 in
-      let by = kids_by (n - k) k (length xs) (Some p) (omega arith) e ∙ ap (λ o. and_then o (λ rows. option_map (λ more. rows ++ more) (kids (n - k - 1) (k + 1) (length xs + length rows)))) got.1 in
-      let long : length xs + length rs ≡ length xs' = sym (ap length got.2 ∙ length-append xs rs) in
-      let left : n - k - 1 ≡ n - (k + 1) = omega arith in
-      let next : kids (n - k - 1) (k + 1) (length xs + length rs) ≡ kids (n - (k + 1)) (k + 1) (length xs') = ap (λ j. kids j (k + 1) (length xs + length rs)) left ∙ ap (kids (n - (k + 1)) (k + 1)) long in (
-        inv.0 ++ rs,
-        got.2 ∙ ap (λ l. l ++ rs) inv.1 ∙ append_assoc xs₀ inv.0 rs,
-        inv.2 ∙ ap (option_map (λ more. inv.0 ++ more)) (by ∙ ap (option_map (λ more. rs ++ more)) next) ∙ mapped_twice (kids (n - (k + 1)) (k + 1) (length xs')) inv.0 rs,
-      )
-
-  pub none_yet : (n : ℕ) (xs : List Row) → Sofar n 0 xs xs
+  pub none_yet : (n : ℕ) (xs : List Row) → Sofar walk bs tags at n 0 xs xs
   none_yet n xs =
-      let left : n ≡ n - 0 = omega arith in
-      ([], sym (append-nil xs), same (kids n 0 (length xs)) ∙ ap (λ j. option_map (λ more. [] ++ more) (kids j 0 (length xs))) left) where
+      let all : n ≡ n - 0 = omega arith in
+      record { done = []; table = sym (append-nil xs); left = same (kids n 0 (length xs)) ∙ ap (λ j. option_map (λ more. [] ++ more) (kids j 0 (length xs))) all } where
         same : (o : Option (List Row)) → o ≡ option_map (λ more. [] ++ more) o
         same None = refl
         same (Some x) = refl
 
-  pub all_read : (n k : ℕ) (xs₀ xs : List Row) → Sofar n k xs₀ xs → n ≤ k → Reads (kids n 0 (length xs₀)) (Some tt) xs₀ xs
+-- more rows than there is room for stay too many
+over_more : (done xs₀ xs : List Row) (o : Option (List Row)) (rest : List Row → Option (List Row)) → xs ≡ xs₀ ++ done → Over o xs → Over (option_map (λ m. done ++ m) (and_then o (λ rows. option_map (λ m. rows ++ m) (rest rows)))) xs₀
+over_more done xs₀ xs None rest t h = none_over refl
+over_more done xs₀ xs (Some rows) rest t h = by (rest rows) where
+  by : (r : Option (List Row)) → Over (option_map (λ m. done ++ m) (option_map (λ m. rows ++ m) r)) xs₀
+  by None = none_over refl
+  by (Some r) = record {
+    over = λ more e.
+        let d : more ≡ done ++ (rows ++ r) = cc in
+        omega (arith, h.over rows refl, ap length d, length-append done (rows ++ r), length-append rows r, ap length t, length-append xs₀ done);
+  }
+
+mapped_twice : (o : Option (List Row)) (a b : List Row) → option_map (λ m. a ++ m) (option_map (λ m. b ++ m) o) ≡ option_map (λ m. (a ++ b) ++ m) o
+mapped_twice None a b = refl
+mapped_twice (Some x) a b = ap Some (sym (append_assoc a b x))
+
+module _ {walk : Walk} {bs : List ℕ} {tags : Tags} {at n k : ℕ} {xs₀ xs : List Row} (inv : Sofar walk bs tags at n k xs₀ xs) where
+  pub all_read : n ≤ k → Reads (child_rows walk bs tags at n 0 (length xs₀)) (Ok tt) xs₀ xs
   unfolding child_rows
-  all_read n k xs₀ xs inv h =
+  all_read h =
       let z : n - k ≡ 0 = omega arith in
-      (inv.0, inv.2 ∙ ap (λ j. option_map (λ more. inv.0 ++ more) (kids j k (length xs))) z ∙ ap Some (append-nil inv.0), inv.1)
+      (inv.done, inv.left ∙ ap (λ j. option_map (λ more. inv.done ++ more) (child_rows walk bs tags at j k (length xs))) z ∙ ap Some (append-nil inv.done), inv.table)
+
+  left_by : k < n → (o : Option ℕ) → o ≡ item_of bs at k → child_rows walk bs tags at n 0 (length xs₀) ≡ option_map (λ more. inv.done ++ more) (and_then o (λ p. and_then (walk (length xs) p (tag_of bs tags k)) (λ rows. option_map (λ more. rows ++ more) (child_rows walk bs tags at (n - k - 1) (k + 1) (length xs + length rows)))))
+  left_by h o e = inv.left ∙ ap (option_map (λ more. inv.done ++ more)) (kids_by walk bs tags at (n - k) k (length xs) o (omega arith) e)
+
+  pub no_item : k < n → None ≡ item_of bs at k → Over (child_rows walk bs tags at n 0 (length xs₀)) xs₀
+  no_item h e = none_over (left_by h None e)
+
+  module _ (h : k < n) {p tag : ℕ} (e : Some p ≡ item_of bs at k) (g : tag ≡ tag_of bs tags k) where
+    pub field_over : Over (walk (length xs) p tag) xs → Over (child_rows walk bs tags at n 0 (length xs₀)) xs₀
+    field_over over =
+        subst (λ o. Over o xs₀) (sym (left_by h (Some p) e))
+        (over_more inv.done xs₀ xs (walk (length xs) p (tag_of bs tags k)) (λ rs. child_rows walk bs tags at (n - k - 1) (k + 1) (length xs + length rs)) inv.table (subst (λ j. Over (walk (length xs) p j) xs) g over))
+
+    pub field_read : (xs' : List Row) → Reads (walk (length xs) p tag) (Ok tt) xs xs' → Sofar walk bs tags at n (k + 1) xs₀ xs'
+    field_read xs' got' =
+        let got = subst (λ j. Reads (walk (length xs) p j) (Ok tt) xs xs') g got' in
+        let rs = got.0 in
+        let long : length xs + length rs ≡ length xs' = sym (ap length got.2 ∙ length-append xs rs) in
+        let less : n - k - 1 ≡ n - (k + 1) = omega arith in
+        record {
+          done = inv.done ++ rs;
+          table = got.2 ∙ ap (λ l. l ++ rs) inv.table ∙ append_assoc xs₀ inv.done rs;
+          left =
+              left_by h (Some p) e
+              ∙ ap (λ o. option_map (λ more. inv.done ++ more) (and_then o (λ rows. option_map (λ more. rows ++ more) (child_rows walk bs tags at (n - k - 1) (k + 1) (length xs + length rows))))) got.1
+              ∙ ap (λ b. option_map (λ more. inv.done ++ more) (option_map (λ more. rs ++ more) (child_rows walk bs tags at (n - k - 1) (k + 1) b))) long
+              ∙ ap (λ j. option_map (λ more. inv.done ++ more) (option_map (λ more. rs ++ more) (child_rows walk bs tags at j (k + 1) (length xs')))) less
+              ∙ mapped_twice (child_rows walk bs tags at (n - (k + 1)) (k + 1) (length xs')) inv.done rs;
+        }
 
 module _ (bs : List ℕ) (before p tag : ℕ) where
   pub walk_none : (d : ℕ) → d ≡ 0 → walk_at d bs before p tag ≡ None
@@ -115,95 +133,68 @@ module _ (bs : List ℕ) (before p tag : ℕ) where
         let n : suc d ≡ suc (suc d) - 1 = omega arith in
         more d ∙ ap (field_rows (walk_at (suc d) bs) (Some (walk_at d bs)) bs before tag f) i ∙ ap (λ j. option_map (plain_rows before tag f.shape.row) (kids_of (walk_at j bs) bs f (before + 1))) n
 
-    pub walk_flat : (d : ℕ) (i : Index) → d ≡ 1 → f.index ≡ Some i → walk_at d bs before p tag ≡ None
-    walk_flat d i h j = ap (λ k. walk_at k bs before p tag) h ∙ one ∙ ap (field_rows (walk_at 0 bs) None bs before tag f) j
+    pub walk_flat : (d : ℕ) {i : Index} → d ≡ 1 → f.index ≡ Some i → walk_at d bs before p tag ≡ None
+    walk_flat d h j = ap (λ k. walk_at k bs before p tag) h ∙ one ∙ ap (field_rows (walk_at 0 bs) None bs before tag f) j
 
-    pub walk_indexed : (d : ℕ) (i : Index) → 1 < d → f.index ≡ Some i → walk_at d bs before p tag ≡ option_map (index_rows before tag i f.shape.row) (kids_of (walk_at (d - 2) bs) bs f (before + 2))
-    walk_indexed zero i h j = absurd (omega arith)
-    walk_indexed (suc zero) i h j = absurd (omega arith)
-    walk_indexed (suc (suc d)) i h j =
+    pub walk_indexed : (d : ℕ) {i : Index} → 1 < d → f.index ≡ Some i → walk_at d bs before p tag ≡ option_map (index_rows before tag i f.shape.row) (kids_of (walk_at (d - 2) bs) bs f (before + 2))
+    walk_indexed zero h j = absurd (omega arith)
+    walk_indexed (suc zero) h j = absurd (omega arith)
+    walk_indexed (suc (suc d)) {i} h j =
         let n : d ≡ suc (suc d) - 2 = omega arith in
         more d ∙ ap (field_rows (walk_at (suc d) bs) (Some (walk_at d bs)) bs before tag f) j ∙ ap (λ k. option_map (index_rows before tag i f.shape.row) (kids_of (walk_at k bs) bs f (before + 2))) n
 
--- the same rows under another name
-pub reads_as : (o q : Option (List Row)) (r : Option (Unit {0})) (xs xs' : List Row) → o ≡ q → Reads q r xs xs' → Reads o r xs xs'
-reads_as o q r xs xs' e got = subst (λ u. Reads u r xs xs') (sym e) got
+-- m rows are kept at the front of a field's own, its children's are read behind them, and then they are put there
+module _ (kids : ℕ → Option (List Row)) (rows_by : List Row → List Row) (m : ℕ) (long : (ks : List Row) → length (rows_by ks) ≡ m + length ks) (xs : List Row) where
+  over_all : (o : Option (List Row)) → ((ks : List Row) → o ≡ Some ks → 256 < length xs + (m + length ks)) → Over (option_map rows_by o) xs
+  over_all None h = none_over refl
+  over_all (Some ks) h = record {
+    over = λ rows d.
+        let e : rows ≡ rows_by ks = cc in
+        omega (arith, h ks refl, ap length e, long ks);
+  }
 
-length_more : (xs xs₁ ks xs₂ : List Row) (a : Row) → xs₁ ≡ xs ++ (a ∷ []) → xs₂ ≡ xs₁ ++ ks → length xs₂ ≡ length xs + 1 + length ks
-length_more xs xs₁ ks xs₂ a e d = ap length d ∙ length-append xs₁ ks ∙ ap (λ n. n + length ks) (ap length e ∙ length-append xs (a ∷ []))
+  pub no_room : 256 < length xs + m → Over (option_map rows_by (kids (length xs + m))) xs
+  no_room h = over_all (kids (length xs + m)) (λ ks d. omega arith)
 
-pub length_one : (xs xs₁ : List Row) (a : Row) → xs₁ ≡ xs ++ (a ∷ []) → length xs₁ ≡ length xs + 1
-length_one xs xs₁ a e = ap length e ∙ length-append xs (a ∷ [])
+  module _ (xs₁ : List Row) (kept : length xs₁ ≡ length xs + m) where
+    pub kids_over : Over (kids (length xs₁)) xs₁ → Over (option_map rows_by (kids (length xs + m))) xs
+    kids_over h = over_all (kids (length xs + m)) (λ ks d. let l = h.over ks (ap kids kept ∙ d) in omega (arith, l, kept))
 
--- a field without a dictionary: a row is kept for it, its children are read, and the row is put there
-module _ (kids : ℕ → Option (List Row)) (tag : ℕ) (t : Typed) (xs xs₁ : List Row) (a : Row) (e : xs₁ ≡ xs ++ (a ∷ [])) where
-  over_plain : (o : Option (List Row)) → ((ks : List Row) → o ≡ Some ks → 256 < length xs₁ + length ks) → (rows : List Row) → option_map (plain_rows (length xs) tag t) o ≡ Some rows → 256 < length xs + length rows
-  over_plain None h rows d = let z : ◌≡◌ {A = ℕ} 0 1 = cc in absurd (omega arith)
-  over_plain (Some ks) h rows d =
-      let l : rows ≡ plain_rows (length xs) tag t ks = cc in
-      omega (arith, h ks refl, length_one xs xs₁ a e, ap length l)
+    pub kids_read : (xs₂ xs₃ : List Row) (got : Reads (kids (length xs₁)) (Ok tt) xs₁ xs₂) → xs₃ ≡ xs ++ rows_by got.0 → Reads (option_map rows_by (kids (length xs + m))) (Ok tt) xs xs₃
+    kids_read xs₂ xs₃ got e = (rows_by got.0, ap (option_map rows_by) (ap kids (sym kept) ∙ got.1), e)
 
-  pub plain_over : (xs₂ : List Row) → Reads (kids (length xs₁)) None xs₁ xs₂ → Reads (option_map (plain_rows (length xs) tag t) (kids (length xs + 1))) None xs xs₂
-  plain_over xs₂ over = over_plain (kids (length xs + 1)) (λ ks d. over ks (ap kids (length_one xs xs₁ a e) ∙ d))
+module _ (xs xs₁ : List Row) (a : Row) (e : xs₁ ≡ xs ++ (a ∷ [])) where
+  pub one_more : length xs₁ ≡ length xs + 1
+  one_more = ap length e ∙ length-append xs (a ∷ [])
 
-  pub plain_read : (xs₂ xs₃ : List Row) (own n : ℕ) (row : Row) → Reads (kids (length xs₁)) (Some tt) xs₁ xs₂ → own ≡ length xs → n ≡ length xs₂ → row ≡ row_of t tag (pos 0) n → xs₃ ≡ set xs₂ own row → Reads (option_map (plain_rows (length xs) tag t) (kids (length xs + 1))) (Some tt) xs xs₃
-  plain_read xs₂ xs₃ own n row got o l r s =
-      let ks = got.0 in
-      let long : n ≡ length xs + 1 + length ks = l ∙ length_more xs xs₁ ks xs₂ a e got.2 in
-      let all : xs₂ ≡ xs ++ (a ∷ ks) = got.2 ∙ ap (λ y. y ++ ks) e ∙ append_assoc xs (a ∷ []) ks in (
-        plain_rows (length xs) tag t ks,
-        ap (option_map (plain_rows (length xs) tag t)) (ap kids (sym (length_one xs xs₁ a e)) ∙ got.1),
-        s ∙ ap (λ y. set y own row) all ∙ set_at xs a ks row own (sym o) ∙ ap (λ y. xs ++ (y ∷ ks)) (r ∙ ap (row_of t tag (pos 0)) long),
-      )
+  -- the row that is kept, replaced
+  pub one_put : (xs₂ ks : List Row) (own : ℕ) (row : Row) → xs₂ ≡ xs₁ ++ ks → own ≡ length xs → set xs₂ own row ≡ xs ++ (row ∷ ks)
+  one_put xs₂ ks own row d o = ap (λ y. set y own row) (d ∙ ap (λ y. y ++ ks) e ∙ append_assoc xs (a ∷ []) ks) ∙ set_at xs a ks row own (sym o)
 
-  -- the row that is kept is there
-  pub kept_there : (o : Option (List Row)) (xs₂ : List Row) (own : ℕ) → Reads o (Some tt) xs₁ xs₂ → own ≡ length xs → own < length xs₂
-  kept_there o xs₂ own got d = omega (arith, d, length_more xs xs₁ got.0 xs₂ a e got.2)
+  module _ (xs₂ : List Row) (b : Row) (d : xs₂ ≡ xs₁ ++ (b ∷ [])) where
+    pub two_more : length xs₂ ≡ length xs + 2
+    two_more = let p = one_more in let q = ap length d ∙ length-append xs₁ (b ∷ []) in omega arith
 
--- a row put in the place of another changes no length
-pub put_there : (xs xs' : List Row) (own : ℕ) (row : Row) → xs' ≡ set xs own row → own + 1 < length xs → own + 1 < length xs'
-put_there xs xs' own row e h = omega (arith, ap length e ∙ length-set xs own row)
+    pub two_put : (xs₃ ks : List Row) (own : ℕ) (row value : Row) → xs₃ ≡ xs₂ ++ ks → own ≡ length xs → set (set xs₃ own row) (own + 1) value ≡ xs ++ (row ∷ (value ∷ ks))
+    two_put xs₃ ks own row value c o =
+        let behind : xs₃ ≡ xs₁ ++ (b ∷ ks) = c ∙ ap (λ y. y ++ ks) d ∙ append_assoc xs₁ (b ∷ []) ks in
+        let front : length (xs ++ (row ∷ [])) ≡ own + 1 = length-append xs (row ∷ []) ∙ ap (λ n. n + 1) (sym o) in
+        ap (λ y. set y (own + 1) value) (one_put xs₃ (b ∷ ks) own row behind o ∙ sym (append_assoc xs (row ∷ []) (b ∷ ks)))
+        ∙ set_at (xs ++ (row ∷ [])) b ks value (own + 1) front ∙ append_assoc xs (row ∷ []) (value ∷ ks)
 
--- there is no room for the second row of a dictionary field
-module _ (kids : ℕ → Option (List Row)) (tag : ℕ) (i : Index) (t : Typed) (xs xs₁ : List Row) (a : Row) (e : xs₁ ≡ xs ++ (a ∷ [])) where
-  full_two : (o : Option (List Row)) → 256 ≤ length xs₁ → (rows : List Row) → option_map (index_rows (length xs) tag i t) o ≡ Some rows → 256 < length xs + length rows
-  full_two None h rows q = let z : ◌≡◌ {A = ℕ} 0 1 = cc in absurd (omega arith)
-  full_two (Some ks) h rows q =
-      let r : rows ≡ index_rows (length xs) tag i t ks = cc in
-      omega (arith, h, length_one xs xs₁ a e, ap length r)
+-- a field without a dictionary: its own row is kept, and put there behind its children's
+pub plain_read : (kids : ℕ → Option (List Row)) (tag : ℕ) (t : Typed) (xs xs₁ : List Row) (a : Row) → xs₁ ≡ xs ++ (a ∷ []) → (xs₂ xs₃ : List Row) (own n : ℕ) (row : Row) → Reads (kids (length xs₁)) (Ok tt) xs₁ xs₂ → own ≡ length xs → n ≡ length xs₂ → row ≡ row_of t tag (pos 0) n → xs₃ ≡ set xs₂ own row → Reads (option_map (plain_rows (length xs) tag t) (kids (length xs + 1))) (Ok tt) xs xs₃
+plain_read kids tag t xs xs₁ a e xs₂ xs₃ own n row got o l r s =
+    let long : n ≡ length xs + 1 + length got.0 = l ∙ ap length got.2 ∙ length-append xs₁ got.0 ∙ ap (λ k. k + length got.0) (one_more xs xs₁ a e) in
+    kids_read kids (plain_rows (length xs) tag t) 1 (λ ks. omega arith) xs xs₁ (one_more xs xs₁ a e) xs₂ xs₃ got
+    (s ∙ one_put xs xs₁ a e xs₂ got.0 own row got.2 o ∙ ap (λ y. xs ++ (y ∷ got.0)) (r ∙ ap (row_of t tag (pos 0)) long))
 
-  pub indexed_full : 256 ≤ length xs₁ → (xs₂ : List Row) → Reads (option_map (index_rows (length xs) tag i t) (kids (length xs + 2))) None xs xs₂
-  indexed_full h xs₂ = full_two (kids (length xs + 2)) h
-
--- a dictionary field: two rows are kept for it
-module _ (kids : ℕ → Option (List Row)) (tag : ℕ) (i : Index) (t : Typed) (xs xs₁ xs₂ : List Row) (a b : Row) (e : xs₁ ≡ xs ++ (a ∷ [])) (d : xs₂ ≡ xs₁ ++ (b ∷ [])) where
-  two : length xs₂ ≡ length xs + 2
-  two = let p = length_one xs xs₁ a e in let q = length_one xs₁ xs₂ b d in omega arith
-
-  over_two : (n : ℕ) → length xs + 2 ≤ n + 2 → (o : Option (List Row)) → ((ks : List Row) → o ≡ Some ks → 256 < n + 2 + length ks) → n ≡ length xs → (rows : List Row) → option_map (index_rows (length xs) tag i t) o ≡ Some rows → 256 < length xs + length rows
-  over_two n l None h m rows q = let z : ◌≡◌ {A = ℕ} 0 1 = cc in absurd (omega arith)
-  over_two n l (Some ks) h m rows q =
-      let r : rows ≡ index_rows (length xs) tag i t ks = cc in
-      omega (arith, h ks refl, m, ap length r)
-
-  pub indexed_over : (xs₃ : List Row) → Reads (kids (length xs₂)) None xs₂ xs₃ → Reads (option_map (index_rows (length xs) tag i t) (kids (length xs + 2))) None xs xs₃
-  indexed_over xs₃ over = over_two (length xs) (omega arith) (kids (length xs + 2)) (λ ks q. let h = over ks (ap kids two ∙ q) in omega (arith, h, two)) refl
-
-  pub indexed_read : (xs₃ xs₄ xs₅ : List Row) (own n : ℕ) (row value : Row) → Reads (kids (length xs₂)) (Some tt) xs₂ xs₃ → own ≡ length xs → n ≡ length xs₃ → row ≡ row_of i.row tag i.id n → value ≡ row_of t 0 (pos 0) n → xs₄ ≡ set xs₃ own row → xs₅ ≡ set xs₄ (own + 1) value → Reads (option_map (index_rows (length xs) tag i t) (kids (length xs + 2))) (Some tt) xs xs₅
-  indexed_read xs₃ xs₄ xs₅ own n row value got o l r v s w =
-      let ks = got.0 in
-      let long : n ≡ length xs + 2 + length ks = l ∙ ap length got.2 ∙ length-append xs₂ ks ∙ ap (λ m. m + length ks) two in
-      let all : xs₃ ≡ xs ++ (a ∷ (b ∷ ks)) = got.2 ∙ ap (λ y. y ++ ks) d ∙ append_assoc xs₁ (b ∷ []) ks ∙ ap (λ y. y ++ (b ∷ ks)) e ∙ append_assoc xs (a ∷ []) (b ∷ ks) in
-      let first : xs₄ ≡ xs ++ (row ∷ (b ∷ ks)) = s ∙ ap (λ y. set y own row) all ∙ set_at xs a (b ∷ ks) row own (sym o) in
-      let front : length (xs ++ (row ∷ [])) ≡ own + 1 = length-append xs (row ∷ []) ∙ ap (λ m. m + 1) (sym o) in
-      let again : xs₄ ≡ (xs ++ (row ∷ [])) ++ (b ∷ ks) = first ∙ sym (append_assoc xs (row ∷ []) (b ∷ ks)) in
-      let second : xs₅ ≡ xs ++ (row ∷ (value ∷ ks)) = w ∙ ap (λ y. set y (own + 1) value) again ∙ set_at (xs ++ (row ∷ [])) b ks value (own + 1) front ∙ append_assoc xs (row ∷ []) (value ∷ ks) in
-      let row_is = r ∙ ap (row_of i.row tag i.id) long in
-      let value-is = v ∙ ap (row_of t 0 (pos 0)) long in (
-        index_rows (length xs) tag i t ks,
-        ap (option_map (index_rows (length xs) tag i t)) (ap kids (sym two) ∙ got.1),
-        second ∙ ap (λ y. xs ++ (y ∷ (value ∷ ks))) row_is ∙ ap (λ y. xs ++ (row_of i.row tag i.id (length xs + 2 + length ks) ∷ (y ∷ ks))) value-is,
-      )
-
-  pub both_there : (o : Option (List Row)) (xs₃ : List Row) (own : ℕ) → Reads o (Some tt) xs₂ xs₃ → own ≡ length xs → own + 1 < length xs₃
-  both_there o xs₃ own got g = let l = ap length got.2 ∙ length-append xs₂ got.0 in omega (arith, l, two, g)
+-- a dictionary field: two rows are kept, for its indices and its values
+pub indexed_read : (kids : ℕ → Option (List Row)) (tag : ℕ) (i : Index) (t : Typed) (xs xs₁ : List Row) (a : Row) → xs₁ ≡ xs ++ (a ∷ []) → (xs₂ : List Row) (b : Row) → xs₂ ≡ xs₁ ++ (b ∷ []) → (xs₃ xs₄ xs₅ : List Row) (own n : ℕ) (row value : Row) → Reads (kids (length xs₂)) (Ok tt) xs₂ xs₃ → own ≡ length xs → n ≡ length xs₃ → row ≡ row_of i.row tag i.id n → value ≡ row_of t 0 (pos 0) n → xs₄ ≡ set xs₃ own row → xs₅ ≡ set xs₄ (own + 1) value → Reads (option_map (index_rows (length xs) tag i t) (kids (length xs + 2))) (Ok tt) xs xs₅
+indexed_read kids tag i t xs xs₁ a e xs₂ b d xs₃ xs₄ xs₅ own n row value got o l r v s w =
+    let two = two_more xs xs₁ a e xs₂ b d in
+    let long : n ≡ length xs + 2 + length got.0 = l ∙ ap length got.2 ∙ length-append xs₂ got.0 ∙ ap (λ k. k + length got.0) two in
+    kids_read kids (index_rows (length xs) tag i t) 2 (λ ks. omega arith) xs xs₂ two xs₃ xs₅ got
+    (w ∙ ap (λ y. set y (own + 1) value) s ∙ two_put xs xs₁ a e xs₂ b d xs₃ got.0 own row value got.2 o
+    ∙ ap (λ y. xs ++ (y ∷ (value ∷ got.0))) (r ∙ ap (row_of i.row tag i.id) long)
+    ∙ ap (λ y. xs ++ (row_of i.row tag i.id (length xs + 2 + length got.0) ∷ (y ∷ got.0))) (v ∙ ap (row_of t 0 (pos 0)) long))

@@ -1,5 +1,5 @@
 -- Nested fields, read within one another, as rows in preorder.
-use Rattle.std.specs.Prelude.{◌≡◌, ℕ, zero, suc, ◌+◌, ◌<◌, cond, List, [], ◌∷◌, ◌++◌, length, take, ℤ, pos, Some, None, Option, nat_le}
+use Rattle.std.specs.Prelude.{◌≡◌, ℕ, zero, suc, ◌+◌, ◌<◌, cond, List, [], ◌∷◌, ◌++◌, length, ℤ, pos, Some, None, Ok, Err, Option, Result, nat_le}
 use Rattle.std.specs.Option.{option_map}
 use Rattle.little.specs.Maybe.{and_then}
 use Rattle.message.specs.declared.rows.Row.{Row}
@@ -10,6 +10,7 @@ use Rattle.types.specs.declared.shapes.Tags.TheVariants.{Zero}
 use Rattle.fields.specs.declared.parts.Children.{Children}
 use Rattle.fields.specs.declared.parts.Field.{Field}
 use Rattle.fields.specs.declared.parts.Index.{Index}
+use Rattle.fields.specs.declared.parts.Refused.{Refused}
 use Rattle.fields.specs.declared.rows.Rows.{Rows}
 use Rattle.fields.specs.Fields.{field_at, tag_of}
 
@@ -64,10 +65,10 @@ rows_at bs fields = few (child_rows (walk_at 16 bs) bs Zero fields.at fields.cou
 
 -- the rows in a table
 abbrev pub held : Rows → List Row
-held t = take t.len t.items
+held t = t.items.items
 
 -- what reading fields into a table does: their rows stand behind those that it has, and there is room for them all;
 -- or they are refused, or are more than there is room for
-abbrev pub Reads : Option (List Row) → Option (Unit {0}) → List Row → List Row → Type 0
-Reads o (Some u) xs xs' = (rows : List Row) × (o ≡ Some rows) × (xs' ≡ xs ++ rows)
-Reads o None xs xs' = (rows : List Row) → o ≡ Some rows → 256 < length xs + length rows
+abbrev pub Reads : Option (List Row) → Result (Unit {0}) Refused → List Row → List Row → Type 0
+Reads o (Ok u) xs xs' = (rows : List Row) × (o ≡ Some rows) × (xs' ≡ xs ++ rows)
+Reads o (Err e) xs xs' = (rows : List Row) → o ≡ Some rows → 256 < length xs + length rows

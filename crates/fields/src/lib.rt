@@ -1,7 +1,6 @@
 // The fields of a schema in FlatBuffers, as rows.
 #![tactic(auto)]
 
-mod fills;
 pub mod parts;
 mod reads;
 pub mod rows;

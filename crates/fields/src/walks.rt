@@ -1,14 +1,14 @@
 // Nested fields as rows: a field is read within the one above it, and the depth that is left falls.
-ghost use Rattle.std.specs.Prelude.{◌≡◌, ℕ, ◌+◌, ◌^◌, ◌<◌, length};
+ghost use Rattle.std.specs.Prelude.{◌≡◌, ◌+◌, ◌^◌, ◌<◌, length};
 ghost use Rattle.std.specs.Option.{option_map};
 ghost use Rattle.fields.specs.Fields.{tag_of};
 ghost use Rattle.fields.specs.Walks.{Reads, child_rows, held, index_rows, kids_of, plain_rows, row_of, rows_at, walk_at};
 
-use crate::parts::{Children, Field, Index};
+use crate::parts::{Children, Field, Index, Refused};
 use crate::reads::field_at;
 use crate::rows::Rows;
-use little::u8_at;
-use message::{NO_ROW, Row};
+use little::Little;
+use message::Row;
 use tables::item;
 use types::{Tags, Typed};
 
@@ -22,10 +22,10 @@ fn tag_of(bytes: &[u8], tags: Tags, k: u32) -> u8
     match tags {
         Tags::Zero => 0,
         Tags::Counted => (k % 256) as u8,
-        Tags::Listed { at } => match at.checked_add(4 + 4 * k as usize) {
-            Some(p) => u8_at(bytes, p).unwrap_or(0),
-            None => 0,
-        },
+        Tags::Listed { at } => at
+            .checked_add(4 + 4 * k as usize)
+            .and_then(|p| u8::read_at(bytes, p))
+            .unwrap_or(0),
     }
 }
 
@@ -51,47 +51,49 @@ fn read_children(
     tags: Tags,
     depth: u8,
     rows: &mut Rows,
-) -> Option<()>
+) -> Result<(), Refused>
     ensures { Reads (child_rows (walk_at depth bytes.now) bytes.now tags children.at children.count 0 (length (held rows.old))) result (held rows.old) (held rows.new) }
 {
     for k in 0..children.count {
-        let at = item(bytes, children.at, k)?;
+        let at = item(bytes, children.at, k).ok_or(Refused)?;
         read_field(bytes, at, tag_of(bytes, tags, k), depth, rows)?;
     }
-    Some(())
+    Ok(())
 }
 
 // The field at a place, with what is below it.
 #[cycle(walk)]
-fn read_field(bytes: &[u8], at: usize, tag: u8, depth: u8, rows: &mut Rows) -> Option<()>
+fn read_field(bytes: &[u8], at: usize, tag: u8, depth: u8, rows: &mut Rows) -> Result<(), Refused>
     ensures { Reads (walk_at depth bytes.now (length (held rows.old)) at tag) result (held rows.old) (held rows.new) }
 {
     if depth == 0 {
-        return None;
+        return Err(Refused);
     }
-    let field = field_at(bytes, at)?;
+    let field = field_at(bytes, at).ok_or(Refused)?;
     match field.index {
         None => read_plain(bytes, field, tag, depth - 1, rows),
-        Some(index) => {
-            if depth == 1 {
-                return None;
-            }
-            read_indexed(bytes, field, index, tag, depth - 2, rows)
-        }
+        Some(_) if depth == 1 => Err(Refused),
+        Some(index) => read_indexed(bytes, field, index, tag, depth - 2, rows),
     }
 }
 
 // A field without a dictionary: its own row, and its children's.
 #[cycle(walk)]
-fn read_plain(bytes: &[u8], field: Field, tag: u8, depth: u8, rows: &mut Rows) -> Option<()>
+fn read_plain(
+    bytes: &[u8],
+    field: Field,
+    tag: u8,
+    depth: u8,
+    rows: &mut Rows,
+) -> Result<(), Refused>
     ensures { Reads (option_map (plain_rows (length (held rows.old)) tag field.shape.row) (kids_of (walk_at depth bytes.now) bytes.now field (length (held rows.old) + 1))) result (held rows.old) (held rows.new) }
 {
     let own = rows.len();
-    rows.push(NO_ROW)?;
+    rows.push(Row::default())?;
     read_children(bytes, field.children, field.shape.tags, depth, rows)?;
     let end = rows.len();
     rows.put(own, row_of(field.shape.row, tag, 0, end));
-    Some(())
+    Ok(())
 }
 
 // A dictionary field: the row of its indices, the row of its values, and their children's.
@@ -103,24 +105,24 @@ fn read_indexed(
     tag: u8,
     depth: u8,
     rows: &mut Rows,
-) -> Option<()>
+) -> Result<(), Refused>
     ensures { Reads (option_map (index_rows (length (held rows.old)) tag index field.shape.row) (kids_of (walk_at depth bytes.now) bytes.now field (length (held rows.old) + 2))) result (held rows.old) (held rows.new) }
 {
     let own = rows.len();
-    rows.push(NO_ROW)?;
-    rows.push(NO_ROW)?;
+    rows.push(Row::default())?;
+    rows.push(Row::default())?;
     read_children(bytes, field.children, field.shape.tags, depth, rows)?;
     let end = rows.len();
     rows.put(own, row_of(index.row, tag, index.id, end));
     rows.put(own + 1, row_of(field.shape.row, 0, 0, end));
-    Some(())
+    Ok(())
 }
 
-// The rows of a vector of fields.
+/// The rows of a vector of fields.
 pub fn read_fields(bytes: &[u8], fields: Children) -> Option<Rows>
     ensures { option_map held result ≡ rows_at bytes.now fields }
 {
     let mut rows = Rows::new();
-    read_children(bytes, fields, Tags::Zero, DEPTH, &mut rows)?;
+    read_children(bytes, fields, Tags::Zero, DEPTH, &mut rows).ok()?;
     Some(rows)
 }

@@ -1,9 +1,8 @@
 -- What each question answers, by the header type.
-use Rattle.std.specs.Prelude.{ℕ, List, [], Some, None, Option}
+use Rattle.std.specs.Prelude.{List, [], Option}
 use Rattle.std.specs.Option.{option_map, unwrap_or}
 use Rattle.message.specs.declared.headers.Facts.{Facts}
 use Rattle.message.specs.Messages.{Message, Read, header_of}
-use Rattle.flatbuf.specs.Flat.{Parts}
 
 abbrev pub told : Message → Facts
 told m = record { version = m.version; body = m.body; header = header_of m.contents }
@@ -15,7 +14,3 @@ told_by = option_map told
 -- a list of no items where there is none
 abbrev pub or_none : {A : Type 0} → Option (List A) → List A
 or_none o = unwrap_or o []
-
-abbrev pub part_by : (Parts → List ℕ) → Option Parts → List ℕ
-part_by part None = []
-part_by part (Some p) = part p

@@ -1,5 +1,5 @@
 -- Metadata as FlatBuffers: the slots and defaults of Message, Schema, DictionaryBatch and RecordBatch.
-use Rattle.std.specs.Prelude.{ℕ, Bool, true, false, cond, not, ◌&&◌, List, [], ℤ, pos, is_some, Some, None, Option, ◌==◌, nat_le}
+use Rattle.std.specs.Prelude.{ℕ, Bool, true, false, cond, not, ◌&&◌, List, [], ℤ, pos, is_some, Some, None, Option, ◌==◌}
 use Rattle.std.specs.Option.{option_flatten, option_map, unwrap_or}
 use Rattle.little.specs.Maybe.{and_then}
 use Rattle.message.specs.declared.rows.Row.{Row}
@@ -11,6 +11,8 @@ use Rattle.types.specs.Choices.{is}
 use Rattle.fields.specs.Fields.{children_of}
 use Rattle.fields.specs.Walks.{rows_at}
 use Rattle.flatbuf.specs.declared.heads.Head.{Head}
+use Rattle.flatbuf.specs.declared.heads.HeaderTable.{HeaderTable}
+use Rattle.flatbuf.specs.declared.heads.HeaderTable.TheVariants.{Empty, Schema, DictionaryBatch, RecordBatch, Other}
 
 -- the items of a vector in a slot, where the field is there
 abbrev pub vector_in : ℕ → List ℕ → Option ℕ → Option (Option (List ℕ))
@@ -77,8 +79,14 @@ schema_at bs p =
     elim (is order 1) [ true ↦ None | false ↦ and_then (children_of bs t 1) (rows_at bs) ]))
 
 -- a header of type 1 to 3 has a table; that of another type is not looked at
-abbrev pub header_place : List ℕ → Table → ℕ → Option ℕ
-header_place bs t number = cond (nat_le 1 number && nat_le number 3) (option_flatten (target_of bs t 2)) (Some 0)
+unfoldable pub header_table : List ℕ → Table → ℕ → Option HeaderTable
+header_table bs t number =
+    let place = option_flatten (target_of bs t 2) in
+    cond (number == 0) (Some Empty)
+    (cond (number == 1) (option_map Schema place)
+    (cond (number == 2) (option_map DictionaryBatch place)
+    (cond (number == 3) (option_map RecordBatch place)
+    (Some (Other number)))))
 
 -- the root is a Message: version, header_type, header, bodyLength
 unfoldable pub head_at : List ℕ → Option Head
@@ -88,7 +96,7 @@ head_at bs =
     and_then (i16_of (pos 0) bs t 0) (λ version.
     and_then (u8_of 0 bs t 1) (λ number.
     and_then (i64_of (pos 0) bs t 3) (λ body.
-    option_map (λ at. record { version = version; number = number; body = body; at = at }) (header_place bs t number))))))
+    option_map (λ header. record { version = version; body = body; header = header }) (header_table bs t number))))))
 
 abbrev pub columns_in : Parts → Columns
 columns_in p = record {
@@ -100,13 +108,12 @@ columns_in p = record {
   counts = counts_in p.counts;
 }
 
-unfoldable pub contents_at : List ℕ → Head → Option Contents
-contents_at bs h =
-    cond (h.number == 0) (Some nothing)
-    (cond (h.number == 1) (option_map schema (schema_at bs h.at))
-    (cond (h.number == 2) (option_map (λ d. dictionary d.id d.delta (columns_in d.parts)) (dictionary_at bs h.at))
-    (cond (h.number == 3) (option_map (λ p. batch (columns_in p)) (batch_at bs h.at))
-    (Some (other h.number)))))
+unfoldable pub contents_at : List ℕ → HeaderTable → Option Contents
+contents_at bs Empty = Some nothing
+contents_at bs (Schema p) = option_map schema (schema_at bs p)
+contents_at bs (DictionaryBatch p) = option_map (λ d. dictionary d.id d.delta (columns_in d.parts)) (dictionary_at bs p)
+contents_at bs (RecordBatch p) = option_map (λ p. batch (columns_in p)) (batch_at bs p)
+contents_at bs (Other number) = Some (other number)
 
 unfoldable pub flat_meaning : List ℕ → Read
-flat_meaning bs = and_then (head_at bs) (λ h. option_map (λ c. record { version = h.version; body = h.body; contents = c }) (contents_at bs h))
+flat_meaning bs = and_then (head_at bs) (λ h. option_map (λ c. record { version = h.version; body = h.body; contents = c }) (contents_at bs h.header))

@@ -4,16 +4,19 @@ ghost use Rattle.std.specs.Option.{option_map};
 ghost use Rattle.message.specs.Items.{buffers_in, counts_in, nodes_in};
 ghost use Rattle.message.specs.Messages.{batch_facts, buffers_of, counts_of, header_of, nodes_of, rows_of};
 ghost use Rattle.fields.specs.Walks.{held};
-ghost use Rattle.flatbuf.specs.Asked.{or_none, part_by, told_by};
+ghost use Rattle.flatbuf.specs.Asked.{or_none, told_by};
 ghost use Rattle.flatbuf.specs.Flat.{columns_in, contents_at, flat_meaning};
 ghost use Rattle.flatbuf.specs.Shown.{parts_in};
 
-use crate::batches::{Batch, batch_at, dictionary_at};
-use crate::heads::{Head, head_at};
+use crate::batches::{
+    BUFFER_SIZE, Batch, COUNT_SIZE, NODE_SIZE, batch_at, dictionary_at, no_batch,
+};
+use crate::heads::{HeaderTable, head_at};
 use crate::schemas::schema_at;
 use fields::Rows;
 use message::{BatchFacts, Facts, Header};
 
+#[tactic(auto, using(message::proofs::Listed::length_listed))]
 fn batch_facts(batch: Batch) -> BatchFacts
     ensures { result ≡ batch_facts (columns_in (parts_in batch.entry)) }
 {
@@ -21,44 +24,43 @@ fn batch_facts(batch: Batch) -> BatchFacts
         length: batch.long,
         compressed: batch.compressed,
         missing: batch.missing,
-        nodes: batch.nodes.len() / 16,
-        buffers: batch.buffers.len() / 16,
-        counts: batch.counts.len() / 8,
+        nodes: batch.nodes.len() / usize::from(NODE_SIZE),
+        buffers: batch.buffers.len() / usize::from(BUFFER_SIZE),
+        counts: batch.counts.len() / usize::from(COUNT_SIZE),
     }
 }
 
-fn header_at(bytes: &[u8], head: Head) -> Option<Header>
-    ensures { result ≡ option_map header_of (contents_at bytes.now head) }
+#[tactic(auto, unfolding(crate::specs::Flat::contents_at))]
+fn header_at(bytes: &[u8], table: HeaderTable) -> Option<Header>
+    ensures { result ≡ option_map header_of (contents_at bytes.now table) }
 {
-    match head.number {
-        0 => Some(Header::Empty),
-        1 => {
-            let rows = schema_at(bytes, head.at)?;
-            Some(Header::Schema { rows: rows.len() })
-        }
-        2 => {
-            let batch = dictionary_at(bytes, head.at)?;
-            Some(Header::DictionaryBatch {
+    let header = match table {
+        HeaderTable::Empty => Header::Empty,
+        HeaderTable::Schema { at } => Header::Schema {
+            rows: schema_at(bytes, at)?.len(),
+        },
+        HeaderTable::DictionaryBatch { at } => {
+            let batch = dictionary_at(bytes, at)?;
+            Header::DictionaryBatch {
                 id: batch.id,
                 delta: batch.delta,
                 data: batch_facts(batch.data),
-            })
+            }
         }
-        3 => {
-            let batch = batch_at(bytes, head.at)?;
-            Some(Header::RecordBatch {
-                data: batch_facts(batch),
-            })
-        }
-        number => Some(Header::Other { number }),
-    }
+        HeaderTable::RecordBatch { at } => Header::RecordBatch {
+            data: batch_facts(batch_at(bytes, at)?),
+        },
+        HeaderTable::Other { number } => Header::Other { number },
+    };
+    Some(header)
 }
 
+#[tactic(auto, unfolding(crate::specs::Flat::flat_meaning))]
 pub(crate) fn facts_of(bytes: &[u8]) -> Option<Facts>
     ensures { result ≡ told_by (flat_meaning bytes.now) }
 {
     let head = head_at(bytes)?;
-    let header = header_at(bytes, head)?;
+    let header = header_at(bytes, head.header)?;
     Some(Facts {
         version: head.version,
         body: head.body,
@@ -67,29 +69,30 @@ pub(crate) fn facts_of(bytes: &[u8]) -> Option<Facts>
 }
 
 // The rows of a schema.
+#[tactic(auto, unfolding(crate::specs::Flat::contents_at, crate::specs::Flat::flat_meaning))]
 pub(crate) fn rows_of(bytes: &[u8]) -> Option<Rows>
     ensures { or_none (option_map held result) ≡ rows_of (flat_meaning bytes.now) }
 {
     let head = head_at(bytes)?;
-    match head.number {
-        1 => schema_at(bytes, head.at),
+    match head.header {
+        HeaderTable::Schema { at } => schema_at(bytes, at),
         _ => None,
     }
 }
 
-// The batch of a record batch or a dictionary.
-pub(crate) fn batch_of(bytes: &[u8]) -> Option<Batch<'_>>
-    ensures nodes { nodes_in (part_by (λ p. p.nodes) (option_map parts_in result)) ≡ nodes_of (flat_meaning bytes.now) }
-    ensures buffers { buffers_in (part_by (λ p. p.buffers) (option_map parts_in result)) ≡ buffers_of (flat_meaning bytes.now) }
-    ensures counts { counts_in (part_by (λ p. p.counts) (option_map parts_in result)) ≡ counts_of (flat_meaning bytes.now) }
+// The batch of a record batch or a dictionary, and of any other message one with no lists.
+#[tactic(auto, unfolding(crate::specs::Flat::contents_at, crate::specs::Flat::flat_meaning, message::specs::Listed::listed))]
+pub(crate) fn batch_of(bytes: &[u8]) -> Batch<'_>
+    ensures nodes { nodes_in result.nodes.now ≡ nodes_of (flat_meaning bytes.now) }
+    ensures buffers { buffers_in result.buffers.now ≡ buffers_of (flat_meaning bytes.now) }
+    ensures counts { counts_in result.counts.now ≡ counts_of (flat_meaning bytes.now) }
 {
-    let head = head_at(bytes)?;
-    match head.number {
-        2 => {
-            let batch = dictionary_at(bytes, head.at)?;
-            Some(batch.data)
-        }
-        3 => batch_at(bytes, head.at),
+    let batch = match head_at(bytes).map(|head| head.header) {
+        Some(HeaderTable::DictionaryBatch { at }) => dictionary_at(bytes, at).map(
+            |batch| batch.data,
+        ),
+        Some(HeaderTable::RecordBatch { at }) => batch_at(bytes, at),
         _ => None,
-    }
+    };
+    batch.unwrap_or(no_batch())
 }

@@ -1,14 +1,21 @@
 // Batches of columns.
-ghost use Rattle.std.specs.Prelude.{◌≡◌, []};
-ghost use Rattle.std.specs.Option.{option_map, unwrap_or};
-ghost use Rattle.flatbuf.specs.Flat.{batch_at, data_at, dictionary_at, parts_of, vector_in, vector_of};
+ghost use Rattle.std.specs.Prelude.{◌≡◌, pos, false};
+ghost use Rattle.std.specs.Option.{option_map};
+ghost use Rattle.flatbuf.specs.Flat.{batch_at, data_at, dictionary_at, parts_of, vector_of};
 ghost use Rattle.flatbuf.specs.Shown.{dictionary_in, parts_in};
 ghost use Rattle.message.specs.Shown.{shown_part};
 
-use tables::{Table, table_at, vector};
+use tables::{TableIn, vector};
+
+// How many bytes an item of each list has.
+pub(crate) const NODE_SIZE: u8 = 16;
+
+pub(crate) const BUFFER_SIZE: u8 = 16;
+
+pub(crate) const COUNT_SIZE: u8 = 8;
 
 // A batch: its length, its marks, and the parts of the bytes that its lists fill.
-#[derive(Clone, Copy)]
+#[derive(Clone, Copy, Debug, PartialEq, Eq)]
 pub(crate) struct Batch<'a> {
     pub(crate) long: i64,
     pub(crate) compressed: bool,
@@ -18,44 +25,32 @@ pub(crate) struct Batch<'a> {
     pub(crate) counts: &'a [u8],
 }
 
-#[derive(Clone, Copy)]
+#[derive(Clone, Copy, Debug, PartialEq, Eq)]
 pub(crate) struct DictionaryBatch<'a> {
     pub(crate) id: i64,
     pub(crate) delta: bool,
     pub(crate) data: Batch<'a>,
 }
 
-fn vector_in(bytes: &[u8], list: Option<usize>, width: u8) -> Option<Option<&[u8]>>
-    ensures { option_map shown_part result ≡ vector_in width bytes.now list }
+// A batch whose lists are missing.
+pub(crate) fn no_batch() -> Batch<'static>
+    ensures { parts_in result ≡ parts_of (pos 0) None None false None }
 {
-    match list {
-        None => Some(None),
-        Some(at) => {
-            let items = vector(bytes, at, width)?;
-            Some(Some(items))
-        }
-    }
+    parts_of(0, None, None, false, None)
 }
 
 // The items of the vector in a slot, where the field is there.
-fn vector_of(bytes: &[u8], table: Table, slot: u8, width: u8) -> Option<Option<&[u8]>>
-    ensures { option_map shown_part result ≡ vector_of width bytes.now table slot }
+#[tactic(auto, unfolding(crate::specs::Flat::vector_of))]
+fn vector_of<'a>(table: TableIn<'a>, slot: u8, width: u8) -> Option<Option<&'a [u8]>>
+    ensures { option_map shown_part result ≡ vector_of width table.entry.bytes.now table.entry.table slot }
 {
-    let list = table.target(bytes, slot)?;
-    vector_in(bytes, list, width)
-}
-
-fn or_empty<'a>(bytes: &'a [u8], list: Option<&'a [u8]>) -> &'a [u8]
-    ensures { result.now ≡ unwrap_or (shown_part list.entry) [] }
-{
-    match list {
-        Some(items) => items,
-        None => &bytes[0..0],
+    match table.target(slot)? {
+        None => Some(None),
+        Some(at) => vector(table.bytes, at, width).map(Some),
     }
 }
 
 fn parts_of<'a>(
-    bytes: &'a [u8],
     long: i64,
     nodes: Option<&'a [u8]>,
     buffers: Option<&'a [u8]>,
@@ -67,41 +62,42 @@ fn parts_of<'a>(
     Batch {
         long,
         compressed,
-        missing: !(nodes.is_some() && buffers.is_some()),
-        nodes: or_empty(bytes, nodes),
-        buffers: or_empty(bytes, buffers),
-        counts: or_empty(bytes, counts),
+        missing: nodes.is_none() || buffers.is_none(),
+        nodes: nodes.unwrap_or(&[]),
+        buffers: buffers.unwrap_or(&[]),
+        counts: counts.unwrap_or(&[]),
     }
 }
 
+#[tactic(auto, unfolding(crate::specs::Flat::batch_at))]
 pub(crate) fn batch_at(bytes: &[u8], at: usize) -> Option<Batch<'_>>
     ensures { option_map parts_in result ≡ batch_at bytes.now at }
 {
-    let table = table_at(bytes, at)?;
-    let long = table.i64_or(bytes, 0, 0)?;
-    let nodes = vector_of(bytes, table, 1, 16)?;
-    let buffers = vector_of(bytes, table, 2, 16)?;
-    let compressed = table.has(bytes, 3)?;
-    let counts = vector_of(bytes, table, 4, 8)?;
-    Some(parts_of(bytes, long, nodes, buffers, compressed, counts))
+    let table = TableIn::at(bytes, at)?;
+    let long = table.scalar_or(0, 0i64)?;
+    let nodes = vector_of(table, 1, NODE_SIZE)?;
+    let buffers = vector_of(table, 2, BUFFER_SIZE)?;
+    let compressed = table.has(3)?;
+    let counts = vector_of(table, 4, COUNT_SIZE)?;
+    Some(parts_of(long, nodes, buffers, compressed, counts))
 }
 
 fn data_at(bytes: &[u8], list: Option<usize>) -> Option<Batch<'_>>
     ensures { option_map parts_in result ≡ data_at bytes.now list }
 {
     match list {
-        None => Some(parts_of(bytes, 0, None, None, false, None)),
+        None => Some(no_batch()),
         Some(at) => batch_at(bytes, at),
     }
 }
 
+#[tactic(auto, unfolding(crate::specs::Flat::dictionary_at))]
 pub(crate) fn dictionary_at(bytes: &[u8], at: usize) -> Option<DictionaryBatch<'_>>
     ensures { option_map dictionary_in result ≡ dictionary_at bytes.now at }
 {
-    let table = table_at(bytes, at)?;
-    let id = table.i64_or(bytes, 0, 0)?;
-    let delta = table.bool_or(bytes, 2, false)?;
-    let data = table.target(bytes, 1)?;
-    let data = data_at(bytes, data)?;
+    let table = TableIn::at(bytes, at)?;
+    let id = table.scalar_or(0, 0i64)?;
+    let delta = table.bool_or(2, false)?;
+    let data = data_at(bytes, table.target(1)?)?;
     Some(DictionaryBatch { id, delta, data })
 }

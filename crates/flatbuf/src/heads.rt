@@ -1,42 +1,59 @@
 // The root of the metadata.
 ghost use Rattle.std.specs.Prelude.{◌≡◌};
-ghost use Rattle.flatbuf.specs.Flat.{head_at, header_place};
+ghost use Rattle.flatbuf.specs.Flat.{head_at, header_table};
 
-use tables::{Table, follow, table_at};
+use tables::{TableIn, follow};
 
-// A Message by its own table, with the place of its header's.
-#[derive(Clone, Copy)]
+/// What a message is about, by its header type, with the place of the header's table where that is read.
+#[derive(Clone, Copy, Debug, PartialEq, Eq, Hash)]
+pub enum HeaderTable {
+    Empty,
+    Schema { at: usize },
+    DictionaryBatch { at: usize },
+    RecordBatch { at: usize },
+    Other { number: u8 },
+}
+
+/// A Message by its own table.
+#[derive(Clone, Copy, Debug, PartialEq, Eq, Hash)]
 pub struct Head {
     pub version: i16,
-    // the header type
-    pub number: u8,
     pub body: i64,
-    pub at: usize,
+    pub header: HeaderTable,
 }
 
-fn header_place(bytes: &[u8], message: Table, number: u8) -> Option<usize>
-    ensures { result ≡ header_place bytes.now message number }
+#[tactic(auto, unfolding(crate::specs::Flat::header_table))]
+fn header_table(message: TableIn, number: u8) -> Option<HeaderTable>
+    ensures { result ≡ header_table message.entry.bytes.now message.entry.table number }
 {
-    if number >= 1 && number <= 3 {
-        message.target(bytes, 2)?
-    } else {
-        Some(0)
-    }
+    let header = match number {
+        0 => HeaderTable::Empty,
+        1 => HeaderTable::Schema {
+            at: message.target(2)??,
+        },
+        2 => HeaderTable::DictionaryBatch {
+            at: message.target(2)??,
+        },
+        3 => HeaderTable::RecordBatch {
+            at: message.target(2)??,
+        },
+        number => HeaderTable::Other { number },
+    };
+    Some(header)
 }
 
+#[tactic(auto, unfolding(crate::specs::Flat::head_at))]
 pub(crate) fn head_at(bytes: &[u8]) -> Option<Head>
     ensures { result ≡ head_at bytes.now }
 {
-    let root = follow(bytes, 0)?;
-    let message = table_at(bytes, root)?;
-    let version = message.i16_or(bytes, 0, 0)?;
-    let number = message.u8_or(bytes, 1, 0)?;
-    let body = message.i64_or(bytes, 3, 0)?;
-    let at = header_place(bytes, message, number)?;
+    let message = TableIn::at(bytes, follow(bytes, 0)?)?;
+    let version = message.scalar_or(0, 0i16)?;
+    let number = message.scalar_or(1, 0u8)?;
+    let body = message.scalar_or(3, 0i64)?;
+    let header = header_table(message, number)?;
     Some(Head {
         version,
-        number,
         body,
-        at,
+        header,
     })
 }

@@ -13,23 +13,19 @@ use message::items::{buffer_in, count_in, node_in};
 use message::lists::{Buffers, Counts, Nodes};
 use message::{Buffer, Facts, ItemList, ListSizes, Node, Reading, Refused, Row};
 
-// The reading of FlatBuffers.
-#[derive(Clone, Copy)]
+/// The reading of FlatBuffers.
+#[derive(Clone, Copy, Debug, Default, PartialEq, Eq, Hash)]
 pub struct FlatBuffers;
 
 impl Reading for FlatBuffers {
     ghost meaning = { λ s bytes. flat_meaning bytes };
 
     fn facts(&self, bytes: &[u8]) -> Result<Facts, Refused> {
-        match facts_of(bytes) {
-            Some(facts) => Ok(facts),
-            None => Err(Refused),
-        }
+        facts_of(bytes).ok_or(Refused)
     }
 
     fn row(&self, bytes: &[u8], k: usize) -> Option<Row> {
-        let rows = rows_of(bytes)?;
-        rows.get(k)
+        rows_of(bytes)?.get(k)
     }
 
     fn rows(&self, bytes: &[u8], table: &mut [Row]) -> usize {
@@ -40,38 +36,32 @@ impl Reading for FlatBuffers {
     }
 
     fn node(&self, bytes: &[u8], k: usize) -> Option<Node> {
-        let batch = batch_of(bytes)?;
+        let batch = batch_of(bytes);
         node_in(batch.nodes, k)
     }
 
     fn buffer(&self, bytes: &[u8], k: usize) -> Option<Buffer> {
-        let batch = batch_of(bytes)?;
+        let batch = batch_of(bytes);
         buffer_in(batch.buffers, k)
     }
 
     fn count(&self, bytes: &[u8], k: usize) -> Option<i64> {
-        let batch = batch_of(bytes)?;
+        let batch = batch_of(bytes);
         count_in(batch.counts, k)
     }
 
     fn nodes(&self, bytes: &[u8], table: &mut [Node]) -> usize {
-        let Some(batch) = batch_of(bytes) else {
-            return 0;
-        };
+        let batch = batch_of(bytes);
         Nodes(batch.nodes).copy_to(table)
     }
 
     fn buffers(&self, bytes: &[u8], table: &mut [Buffer]) -> usize {
-        let Some(batch) = batch_of(bytes) else {
-            return 0;
-        };
+        let batch = batch_of(bytes);
         Buffers(batch.buffers).copy_to(table)
     }
 
     fn counts(&self, bytes: &[u8], table: &mut [i64]) -> usize {
-        let Some(batch) = batch_of(bytes) else {
-            return 0;
-        };
+        let batch = batch_of(bytes);
         Counts(batch.counts).copy_to(table)
     }
 
@@ -83,17 +73,11 @@ impl Reading for FlatBuffers {
         buffers: &mut [Buffer],
         counts: &mut [i64],
     ) -> ListSizes {
-        match batch_of(bytes) {
-            Some(batch) => ListSizes {
-                nodes: Nodes(batch.nodes).copy_to(nodes),
-                buffers: Buffers(batch.buffers).copy_to(buffers),
-                counts: Counts(batch.counts).copy_to(counts),
-            },
-            None => ListSizes {
-                nodes: 0,
-                buffers: 0,
-                counts: 0,
-            },
+        let batch = batch_of(bytes);
+        ListSizes {
+            nodes: Nodes(batch.nodes).copy_to(nodes),
+            buffers: Buffers(batch.buffers).copy_to(buffers),
+            counts: Counts(batch.counts).copy_to(counts),
         }
     }
 }

@@ -77,6 +77,14 @@ leads bs p = and_then (u32_at bs p) (λ o. place_in bs (p + o))
 abbrev pub target_of : List ℕ → Table → ℕ → Option (Option ℕ)
 target_of = scalar_of (λ bs p. option_map Some (leads bs p)) None
 
+-- the table that the field in a slot leads to
+abbrev pub table_there : List ℕ → Option ℕ → Option (Option Table)
+table_there bs None = Some None
+table_there bs (Some p) = option_map Some (table_at bs p)
+
+abbrev pub child_of : List ℕ → Table → ℕ → Option (Option Table)
+child_of bs t slot = and_then (target_of bs t slot) (table_there bs)
+
 -- the items of a vector: a count, and so many items of so many bytes each
 unfoldable pub vector_at : ℕ → List ℕ → ℕ → Option (List ℕ)
 vector_at width bs p = and_then (u32_at bs p) (λ n. elim (nat_le (p + 4 + n * width) (length bs)) [

@@ -2,26 +2,19 @@
 // A read that leaves the bytes answers nothing.
 #![tactic(auto)]
 
-ghost use Rattle.std.specs.Prelude.{◌≡◌, ℕ, ◌+◌, ◌*◌, ◌<◌};
+ghost use Rattle.std.specs.Prelude.{◌≡◌, ℕ, ◌+◌, ◌*◌, ◌<◌, IfSome};
 ghost use Rattle.std.specs.Option.{option_map};
-ghost use Rattle.tables.specs.Tables.{place_in, vtable_place, table_at, field_place, field_of, u8_of, i16_of, i32_of, i64_of, bool_of, present_of, leads, target_of, vector_at, item_of};
+ghost use Rattle.tables.specs.Tables.{place_in, vtable_place, table_at, field_place, field_of, scalar_of, bool_of, present_of, leads, target_of, child_of, vector_at, item_of};
 
-use little::{i16_at, i32_at, i64_at, u8_at, u16_at, u32_at};
-
-// A table: its own place, and the place and the length of its vtable.
-#[derive(Clone, Copy)]
-pub struct Table {
-    pub at: usize,
-    pub vtable: usize,
-    pub size: u16,
-}
+use little::Little;
 
 // The place `by` bytes behind `at`, where it lies within the bytes.
+#[tactic(auto, unfolding(crate::specs::Tables::place_in))]
 fn place(bytes: &[u8], at: usize, by: usize) -> Option<usize>
     ensures { result ≡ place_in bytes.now (at + by) }
 {
     let to = at.checked_add(by)?;
-    if to <= bytes.len() { Some(to) } else { None }
+    (to <= bytes.len()).then_some(to)
 }
 
 fn vtable_place(bytes: &[u8], at: usize, back: i32) -> Option<usize>
@@ -35,123 +28,121 @@ fn vtable_place(bytes: &[u8], at: usize, back: i32) -> Option<usize>
     }
 }
 
-pub fn table_at(bytes: &[u8], at: usize) -> Option<Table>
-    ensures { result ≡ table_at bytes.now at }
-{
-    let back = i32_at(bytes, at)?;
-    let vtable = vtable_place(bytes, at, back)?;
-    let size = u16_at(bytes, vtable)?;
-    Some(Table { at, vtable, size })
-}
-
+// The place of a field that stands `by` bytes behind its table; 0 says that there is none.
 fn field_place(bytes: &[u8], at: usize, by: u16) -> Option<Option<usize>>
     ensures { result ≡ field_place bytes.now at by }
 {
-    if by == 0 {
-        return Some(None);
+    match by {
+        0 => Some(None),
+        by => place(bytes, at, by as usize).map(Some),
     }
-    let to = place(bytes, at, by as usize)?;
-    Some(Some(to))
 }
 
-impl Table {
+/// A table: its own place, and the place and the length of its vtable.
+#[derive(Clone, Copy, Debug, PartialEq, Eq, Hash)]
+pub struct Table {
+    pub at: usize,
+    pub vtable: usize,
+    pub size: u16,
+}
+
+/// A table, with the bytes that it lies within.
+#[derive(Clone, Copy, Debug, PartialEq, Eq)]
+pub struct TableIn<'a> {
+    pub bytes: &'a [u8],
+    pub table: Table,
+}
+
+impl<'a> TableIn<'a> {
+    /// The table at a place.
+    #[tactic(auto, unfolding(crate::specs::Tables::table_at))]
+    pub fn at(bytes: &'a [u8], at: usize) -> Option<TableIn<'a>>
+        ensures table { option_map (λ t. t.table) result ≡ table_at bytes.now at }
+        ensures within { IfSome result (λ t. t.bytes.now ≡ bytes.now) }
+    {
+        let back = i32::read_at(bytes, at)?;
+        let vtable = vtable_place(bytes, at, back)?;
+        let size = u16::read_at(bytes, vtable)?;
+        Some(TableIn {
+            bytes,
+            table: Table { at, vtable, size },
+        })
+    }
+
     // The place of the field in a slot.
-    fn field(self, bytes: &[u8], slot: u8) -> Option<Option<usize>>
-        ensures { result ≡ field_of bytes.now self slot }
+    #[tactic(auto, unfolding(crate::specs::Tables::field_of))]
+    fn field(self, slot: u8) -> Option<Option<usize>>
+        ensures { result ≡ field_of self.entry.bytes.now self.entry.table slot }
     {
         let entry = 4 + 2 * slot as usize;
-        if entry + 2 > self.size as usize {
+        if entry + 2 > self.table.size as usize {
             return Some(None);
         }
-        let p = place(bytes, self.vtable, entry)?;
-        let by = u16_at(bytes, p)?;
-        field_place(bytes, self.at, by)
+        let p = place(self.bytes, self.table.vtable, entry)?;
+        let by = u16::read_at(self.bytes, p)?;
+        field_place(self.bytes, self.table.at, by)
     }
 
-    pub fn u8_or(self, bytes: &[u8], slot: u8, default: u8) -> Option<u8>
-        ensures { result ≡ u8_of default bytes.now self slot }
+    /// The number in a slot, or its default where the field is absent.
+    pub fn scalar_or<T: Little + Copy>(self, slot: u8, default: T) -> Option<T>
+        ensures { result ≡ scalar_of T.number_at default self.entry.bytes.now self.entry.table slot }
     {
-        match self.field(bytes, slot)? {
+        match self.field(slot)? {
             None => Some(default),
-            Some(p) => u8_at(bytes, p),
+            Some(p) => T::read_at(self.bytes, p),
         }
     }
 
-    pub fn i16_or(self, bytes: &[u8], slot: u8, default: i16) -> Option<i16>
-        ensures { result ≡ i16_of default bytes.now self slot }
+    /// A Bool is a byte, true where it is not 0.
+    pub fn bool_or(self, slot: u8, default: bool) -> Option<bool>
+        ensures { result ≡ bool_of default self.entry.bytes.now self.entry.table slot }
     {
-        match self.field(bytes, slot)? {
-            None => Some(default),
-            Some(p) => i16_at(bytes, p),
-        }
+        self.scalar_or(slot, u8::from(default)).map(|b| b != 0)
     }
 
-    pub fn i32_or(self, bytes: &[u8], slot: u8, default: i32) -> Option<i32>
-        ensures { result ≡ i32_of default bytes.now self slot }
+    /// Whether a field that leads elsewhere is there.
+    pub fn has(self, slot: u8) -> Option<bool>
+        ensures { result ≡ present_of self.entry.bytes.now self.entry.table slot }
     {
-        match self.field(bytes, slot)? {
-            None => Some(default),
-            Some(p) => i32_at(bytes, p),
-        }
-    }
-
-    pub fn i64_or(self, bytes: &[u8], slot: u8, default: i64) -> Option<i64>
-        ensures { result ≡ i64_of default bytes.now self slot }
-    {
-        match self.field(bytes, slot)? {
-            None => Some(default),
-            Some(p) => i64_at(bytes, p),
-        }
-    }
-
-    pub fn bool_or(self, bytes: &[u8], slot: u8, default: bool) -> Option<bool>
-        ensures { result ≡ bool_of default bytes.now self slot }
-    {
-        match self.field(bytes, slot)? {
-            None => Some(default),
-            Some(p) => {
-                let b = u8_at(bytes, p)?;
-                Some(b != 0)
-            }
-        }
-    }
-
-    // Whether a field that leads elsewhere is there.
-    pub fn has(self, bytes: &[u8], slot: u8) -> Option<bool>
-        ensures { result ≡ present_of bytes.now self slot }
-    {
-        match self.field(bytes, slot)? {
+        match self.field(slot)? {
             None => Some(false),
-            Some(p) => {
-                let _ = u32_at(bytes, p)?;
-                Some(true)
-            }
+            Some(p) => u32::read_at(self.bytes, p).map(|_| true),
         }
     }
 
-    // The place of the table or vector that a field leads to.
-    pub fn target(self, bytes: &[u8], slot: u8) -> Option<Option<usize>>
-        ensures { result ≡ target_of bytes.now self slot }
+    /// The place of the table or vector that a field leads to.
+    pub fn target(self, slot: u8) -> Option<Option<usize>>
+        ensures { result ≡ target_of self.entry.bytes.now self.entry.table slot }
     {
-        match self.field(bytes, slot)? {
+        match self.field(slot)? {
             None => Some(None),
-            Some(p) => {
-                let to = follow(bytes, p)?;
-                Some(Some(to))
-            }
+            Some(p) => follow(self.bytes, p).map(Some),
+        }
+    }
+
+    /// The table that a field leads to.
+    pub fn child(self, slot: u8) -> Option<Option<TableIn<'a>>>
+        ensures table { option_map (option_map (λ t. t.table)) result ≡ child_of self.entry.bytes.now self.entry.table slot }
+        ensures within { IfSome result (λ o. IfSome o (λ t. t.bytes.now ≡ self.entry.bytes.now)) }
+    {
+        match self.target(slot)? {
+            None => Some(None),
+            Some(at) => TableIn::at(self.bytes, at).map(Some),
         }
     }
 }
 
-// The place that the offset at `at` leads to.
+/// The place that the offset at `at` leads to.
+#[tactic(auto, unfolding(crate::specs::Tables::leads))]
 pub fn follow(bytes: &[u8], at: usize) -> Option<usize>
     ensures { result ≡ leads bytes.now at }
 {
-    let by = u32_at(bytes, at)?;
+    let by = u32::read_at(bytes, at)?;
     place(bytes, at, by as usize)
 }
 
-// The place that item k of a vector of offsets leads to.
+/// The place that item k of a vector of offsets leads to.
+#[tactic(auto, unfolding(crate::specs::Tables::item_of))]
 pub fn item(bytes: &[u8], at: usize, k: u32) -> Option<usize>
     ensures { result ≡ item_of bytes.now at k }
 {
@@ -159,12 +150,12 @@ pub fn item(bytes: &[u8], at: usize, k: u32) -> Option<usize>
     follow(bytes, p)
 }
 
-// The items of a vector, `width` bytes each.
+/// The items of a vector, `width` bytes each.
+#[tactic(auto, unfolding(crate::specs::Tables::vector_at))]
 pub fn vector(bytes: &[u8], at: usize, width: u8) -> Option<&[u8]>
     ensures { option_map (λ p. p.now) result ≡ vector_at width bytes.now at }
 {
-    let count = u32_at(bytes, at)?;
-    let start = place(bytes, at, 4)?;
-    let end = place(bytes, start, count as usize * width as usize)?;
-    Some(&bytes[start..end])
+    let count = u32::read_at(bytes, at)?;
+    let items = bytes.get(at..)?.get(4..)?;
+    items.get(..count as usize * width as usize)
 }

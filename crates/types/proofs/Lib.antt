@@ -1,3 +1,2 @@
-pub mod Widths
 pub mod Ids
 pub mod ShapeBy

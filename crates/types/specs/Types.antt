@@ -1,11 +1,12 @@
 -- The row of each type of Schema.fbs, by the type's number and the slots of its table.
-use Rattle.std.specs.Prelude.{ℕ, zero, suc, ◌*◌, Bool, true, false, cond, ◌&&◌, ◌||◌, List, [], ◌∷◌, length, ℤ, pos, negsuc, Some, None, Option, ◌==◌, nat_le, nat_lt}
+use Rattle.std.specs.Prelude.{◌≡◌, ℕ, zero, suc, ◌*◌, Bool, true, false, cond, ◌&&◌, ◌||◌, List, [], ◌∷◌, length, ℤ, pos, negsuc, Some, None, Option, ◌==◌, nat_le, nat_lt}
 use Rattle.std.specs.Int.Signed.{le_z}
 use Rattle.std.specs.Option.{option_map}
 use Rattle.little.specs.Maybe.{and_then}
 use Rattle.little.specs.Numbers.{number_in}
 use Rattle.std.specs.List.{slice_get}
 use Rattle.tables.specs.declared.Table.{Table}
+use Rattle.tables.specs.declared.TableIn.{TableIn}
 use Rattle.tables.specs.Tables.{table_at, i16_of, i32_of, bool_of, present_of, target_of, vector_at}
 use Rattle.types.specs.declared.shapes.TableType.{TableType}
 use Rattle.types.specs.declared.shapes.TableType.TheVariants.{Int, FloatingPoint, Decimal, Date, Time, Timestamp, Interval, FixedSizeBinary, FixedSizeList, Duration}
@@ -167,6 +168,10 @@ row_of Duration = unit_row (pos 1) unit_widths
 -- the type's table is in slot 3 of its field; a type without the table that it needs is unknown
 abbrev pub by_table : List ℕ → Table → (Table → Option Shape) → Option Shape
 by_table bs f read = and_then (target_of bs f 3) (λ o. elim o [ None ↦ Some (plainly unknown) | Some p ↦ and_then (table_at bs p) read ])
+
+-- what is answered for a table within the bytes is what is read from it
+abbrev pub Tells : (TableIn → Option Shape → Type 0) → List ℕ → (Table → Option Shape) → Type 0
+Tells answers bs read = (t : TableIn) → t.bytes.now ≡ bs → (r : Option Shape) → answers t r → r ≡ read t.table
 
 unfoldable pub table_shape : List ℕ → Table → TableType → Option Shape
 table_shape bs f type = by_table bs f (λ t. option_map plainly (row_of type bs t))

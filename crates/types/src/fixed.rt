@@ -4,36 +4,27 @@ ghost use Rattle.types.specs.Choices.{beside_z, between};
 ghost use Rattle.types.specs.Types.{binary_row, decimal_row, decimal_width, fixed, int_row, int_widths, list_row, time_row, time_width, unit_row, width_by};
 
 use crate::shapes::Typed;
-use tables::Table;
-
-pub const UNKNOWN: Typed = Typed {
-    kind: 0,
-    flag: 0,
-    parameter: 0,
-};
+use tables::TableIn;
 
 fn fixed(flag: u8, width: Option<u32>) -> Typed
     ensures { result ≡ fixed flag width }
 {
-    match width {
-        Some(parameter) => Typed {
+    width.map_or(
+        Typed::default(),
+        |parameter| Typed {
             kind: 3,
             flag,
             parameter,
         },
-        None => UNKNOWN,
-    }
+    )
 }
 
 // A number of the type i32 that lies between two bounds.
 fn between(low: u32, high: u32, n: i32) -> Option<u32>
     ensures { result ≡ between low high n }
 {
-    if n < 0 {
-        return None;
-    }
-    let n = n as u32;
-    if low <= n && n <= high { Some(n) } else { None }
+    let n = u32::try_from(n).ok()?;
+    (low <= n && n <= high).then_some(n)
 }
 
 fn int_width(bits: i32) -> Option<u32>
@@ -48,97 +39,90 @@ fn int_width(bits: i32) -> Option<u32>
     }
 }
 
-pub fn int_row(bytes: &[u8], table: Table) -> Option<Typed>
-    ensures { result ≡ int_row bytes.now table }
+#[tactic(auto, unfolding(crate::specs::Types::int_row))]
+pub fn int_row(table: TableIn) -> Option<Typed>
+    ensures { result ≡ int_row table.entry.bytes.now table.entry.table }
 {
-    let bits = table.i32_or(bytes, 0, 0)?;
-    let signed = table.bool_or(bytes, 1, false)?;
-    Some(fixed(if signed { 1 } else { 0 }, int_width(bits)))
+    let bits = table.scalar_or(0, 0i32)?;
+    let signed = table.bool_or(1, false)?;
+    Some(fixed(u8::from(signed), int_width(bits)))
 }
 
 fn width_by(widths: &[u32], unit: i16) -> Option<u32>
     ensures { result ≡ width_by widths.now unit }
 {
-    if unit < 0 {
-        return None;
-    }
-    let n = unit as usize;
-    if n < widths.len() {
-        Some(widths[n])
-    } else {
-        None
-    }
+    widths.get(usize::try_from(unit).ok()?).copied()
 }
 
 // A type by its unit or its precision.
-pub(crate) fn unit_row(bytes: &[u8], table: Table, default: i16, widths: &[u32]) -> Option<Typed>
-    ensures { result ≡ unit_row default widths.now bytes.now table }
+#[tactic(auto, unfolding(crate::specs::Types::unit_row))]
+pub(crate) fn unit_row(table: TableIn, default: i16, widths: &[u32]) -> Option<Typed>
+    ensures { result ≡ unit_row default widths.now table.entry.bytes.now table.entry.table }
 {
-    let unit = table.i16_or(bytes, 0, default)?;
+    let unit = table.scalar_or(0, default)?;
     Some(fixed(0, width_by(widths, unit)))
 }
 
 fn time_width(unit: i16, bits: i32) -> Option<u32>
     ensures { result ≡ time_width unit bits }
 {
-    if bits == 32 && (unit == 0 || unit == 1) {
-        return Some(4);
+    match (bits, unit) {
+        (32, 0 | 1) => Some(4),
+        (64, 2 | 3) => Some(8),
+        _ => None,
     }
-    if bits == 64 && (unit == 2 || unit == 3) {
-        return Some(8);
-    }
-    None
 }
 
-pub(crate) fn time_row(bytes: &[u8], table: Table) -> Option<Typed>
-    ensures { result ≡ time_row bytes.now table }
+#[tactic(auto, unfolding(crate::specs::Types::time_row))]
+pub(crate) fn time_row(table: TableIn) -> Option<Typed>
+    ensures { result ≡ time_row table.entry.bytes.now table.entry.table }
 {
-    let unit = table.i16_or(bytes, 0, 1)?;
-    let bits = table.i32_or(bytes, 1, 32)?;
+    let unit = table.scalar_or(0, 1i16)?;
+    let bits = table.scalar_or(1, 32i32)?;
     Some(fixed(0, time_width(unit, bits)))
 }
 
 fn decimal_width(precision: i32, scale: i32, bits: i32) -> Option<u32>
     ensures { result ≡ decimal_width precision scale bits }
 {
-    if precision < 0 || precision > 255 || scale < -128 || scale > 127 {
-        return None;
-    }
-    match bits {
-        32 => Some(4),
-        64 => Some(8),
-        128 => Some(16),
-        256 => Some(32),
+    match (precision, scale, bits) {
+        (0..=255, -128..=127, 32) => Some(4),
+        (0..=255, -128..=127, 64) => Some(8),
+        (0..=255, -128..=127, 128) => Some(16),
+        (0..=255, -128..=127, 256) => Some(32),
         _ => None,
     }
 }
 
-pub(crate) fn decimal_row(bytes: &[u8], table: Table) -> Option<Typed>
-    ensures { result ≡ decimal_row bytes.now table }
+#[tactic(auto, unfolding(crate::specs::Types::decimal_row))]
+pub(crate) fn decimal_row(table: TableIn) -> Option<Typed>
+    ensures { result ≡ decimal_row table.entry.bytes.now table.entry.table }
 {
-    let precision = table.i32_or(bytes, 0, 0)?;
-    let scale = table.i32_or(bytes, 1, 0)?;
-    let bits = table.i32_or(bytes, 2, 128)?;
+    let precision = table.scalar_or(0, 0i32)?;
+    let scale = table.scalar_or(1, 0i32)?;
+    let bits = table.scalar_or(2, 128i32)?;
     Some(fixed(0, decimal_width(precision, scale, bits)))
 }
 
-pub(crate) fn binary_row(bytes: &[u8], table: Table) -> Option<Typed>
-    ensures { result ≡ binary_row bytes.now table }
+#[tactic(auto, unfolding(crate::specs::Types::binary_row))]
+pub(crate) fn binary_row(table: TableIn) -> Option<Typed>
+    ensures { result ≡ binary_row table.entry.bytes.now table.entry.table }
 {
-    let width = table.i32_or(bytes, 0, 0)?;
+    let width = table.scalar_or(0, 0i32)?;
     Some(fixed(0, between(1, 1024, width)))
 }
 
-pub(crate) fn list_row(bytes: &[u8], table: Table) -> Option<Typed>
-    ensures { result ≡ list_row bytes.now table }
+#[tactic(auto, unfolding(crate::specs::Types::list_row))]
+pub(crate) fn list_row(table: TableIn) -> Option<Typed>
+    ensures { result ≡ list_row table.entry.bytes.now table.entry.table }
 {
-    let size = table.i32_or(bytes, 0, 0)?;
-    match between(0, 2147483647, size) {
-        Some(parameter) => Some(Typed {
+    let size = table.scalar_or(0, 0i32)?;
+    Some(between(0, 2147483647, size).map_or(
+        Typed::default(),
+        |parameter| Typed {
             kind: 11,
             flag: 0,
             parameter,
-        }),
-        None => Some(UNKNOWN),
-    }
+        },
+    ))
 }

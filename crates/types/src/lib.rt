@@ -2,10 +2,11 @@
 #![tactic(auto)]
 
 mod fixed;
+mod numbers;
 pub mod shapes;
 pub mod types;
 mod unions;
 
-pub use fixed::{UNKNOWN, int_row};
+pub use fixed::int_row;
 pub use shapes::{Shape, Tags, Typed};
 pub use types::shape;

@@ -1,19 +1,24 @@
 // The type of a field.
-ghost use Rattle.std.specs.Prelude.{◌≡◌};
+ghost use Rattle.std.specs.Prelude.{◌≡◌, Option};
 ghost use Rattle.types.specs.Choices.{beside};
-ghost use Rattle.types.specs.Types.{by_table, map_shape, plain_rows, plainly, row_of, shape_of, table_shape, table_types, union_shape};
+ghost use Rattle.tables.specs.declared.Table.{Table};
+ghost use Rattle.types.specs.Types.{Tells, by_table, map_shape, plain_rows, plainly, row_of, shape_of, table_shape, table_types, union_shape};
 
-use crate::fixed::{UNKNOWN, binary_row, decimal_row, int_row, list_row, time_row, unit_row};
+use crate::fixed::{binary_row, decimal_row, int_row, list_row, time_row, unit_row};
+use crate::numbers;
 use crate::shapes::{Shape, TableType, Tags, Typed};
 use crate::unions::union_shape;
-use tables::{Table, table_at};
+use tables::TableIn;
 
-fn plainly(row: Typed) -> Shape
-    ensures { result ≡ plainly row }
-{
-    Shape {
-        row,
-        tags: Tags::Zero,
+impl Shape {
+    // A type whose children have no tags of their own.
+    pub(crate) fn plain(row: Typed) -> Shape
+        ensures { result ≡ plainly row }
+    {
+        Shape {
+            row,
+            tags: Tags::Zero,
+        }
     }
 }
 
@@ -22,19 +27,19 @@ fn plain_row(number: u8) -> Option<Typed>
     ensures { result ≡ beside plain_rows number }
 {
     let (kind, flag) = match number {
-        1 => (1, 0),
-        6 => (2, 0),
-        4 => (4, 0),
-        5 => (4, 1),
-        19 => (5, 0),
-        20 => (5, 1),
-        23 => (6, 0),
-        24 => (6, 1),
-        12 => (7, 0),
-        21 => (8, 0),
-        25 => (9, 0),
-        26 => (10, 0),
-        13 => (12, 0),
+        numbers::NULL => (1, 0),
+        numbers::BOOL => (2, 0),
+        numbers::BINARY => (4, 0),
+        numbers::UTF8 => (4, 1),
+        numbers::LARGE_BINARY => (5, 0),
+        numbers::LARGE_UTF8 => (5, 1),
+        numbers::BINARY_VIEW => (6, 0),
+        numbers::UTF8_VIEW => (6, 1),
+        numbers::LIST => (7, 0),
+        numbers::LARGE_LIST => (8, 0),
+        numbers::LIST_VIEW => (9, 0),
+        numbers::LARGE_LIST_VIEW => (10, 0),
+        numbers::STRUCT => (12, 0),
         _ => return None,
     };
     Some(Typed {
@@ -49,83 +54,73 @@ fn table_type(number: u8) -> Option<TableType>
     ensures { result ≡ beside table_types number }
 {
     match number {
-        2 => Some(TableType::Int),
-        3 => Some(TableType::FloatingPoint),
-        7 => Some(TableType::Decimal),
-        8 => Some(TableType::Date),
-        9 => Some(TableType::Time),
-        10 => Some(TableType::Timestamp),
-        11 => Some(TableType::Interval),
-        15 => Some(TableType::FixedSizeBinary),
-        16 => Some(TableType::FixedSizeList),
-        18 => Some(TableType::Duration),
+        numbers::INT => Some(TableType::Int),
+        numbers::FLOATING_POINT => Some(TableType::FloatingPoint),
+        numbers::DECIMAL => Some(TableType::Decimal),
+        numbers::DATE => Some(TableType::Date),
+        numbers::TIME => Some(TableType::Time),
+        numbers::TIMESTAMP => Some(TableType::Timestamp),
+        numbers::INTERVAL => Some(TableType::Interval),
+        numbers::FIXED_SIZE_BINARY => Some(TableType::FixedSizeBinary),
+        numbers::FIXED_SIZE_LIST => Some(TableType::FixedSizeList),
+        numbers::DURATION => Some(TableType::Duration),
         _ => None,
     }
 }
 
-fn table_row(bytes: &[u8], table: Table, of: TableType) -> Option<Typed>
-    ensures { result ≡ row_of «of» bytes.now table }
+fn table_row(table: TableIn, of: TableType) -> Option<Typed>
+    ensures { result ≡ row_of «of» table.entry.bytes.now table.entry.table }
 {
     match of {
-        TableType::Int => int_row(bytes, table),
-        TableType::FloatingPoint => unit_row(bytes, table, 0, &[2, 4, 8]),
-        TableType::Decimal => decimal_row(bytes, table),
-        TableType::Date => unit_row(bytes, table, 1, &[4, 8]),
-        TableType::Time => time_row(bytes, table),
-        TableType::Timestamp => unit_row(bytes, table, 0, &[8, 8, 8, 8]),
-        TableType::Interval => unit_row(bytes, table, 0, &[4, 8, 16]),
-        TableType::FixedSizeBinary => binary_row(bytes, table),
-        TableType::FixedSizeList => list_row(bytes, table),
-        TableType::Duration => unit_row(bytes, table, 1, &[8, 8, 8, 8]),
+        TableType::Int => int_row(table),
+        TableType::FloatingPoint => unit_row(table, 0, &[2, 4, 8]),
+        TableType::Decimal => decimal_row(table),
+        TableType::Date => unit_row(table, 1, &[4, 8]),
+        TableType::Time => time_row(table),
+        TableType::Timestamp => unit_row(table, 0, &[8, 8, 8, 8]),
+        TableType::Interval => unit_row(table, 0, &[4, 8, 16]),
+        TableType::FixedSizeBinary => binary_row(table),
+        TableType::FixedSizeList => list_row(table),
+        TableType::Duration => unit_row(table, 1, &[8, 8, 8, 8]),
     }
 }
 
-fn table_shape(bytes: &[u8], field: Table, of: TableType) -> Option<Shape>
-    ensures { result ≡ table_shape bytes.now field «of» }
+// A type that is read from its own table; without one it is unknown.
+fn by_table<F: FnOnce(TableIn) -> Option<Shape>>(field: TableIn, read: F) -> Option<Shape>
+    requires { F.IsAlwaysCallable read }
+    ensures { (shape : Table → Option Shape) → Tells (F.post read) field.entry.bytes.now shape → result ≡ by_table field.entry.bytes.now field.entry.table shape }
 {
-    let Some(at) = field.target(bytes, 3)? else {
-        return Some(plainly(UNKNOWN));
-    };
-    let table = table_at(bytes, at)?;
-    let row = table_row(bytes, table, of)?;
-    Some(plainly(row))
+    match field.child(3)? {
+        Some(table) => read(table),
+        None => Some(Shape::plain(Typed::default())),
+    }
 }
 
-fn union_field(bytes: &[u8], field: Table, children: u32) -> Option<Shape>
-    ensures { result ≡ by_table bytes.now field (union_shape children bytes.now) }
+#[tactic(auto, unfolding(crate::specs::Types::map_shape))]
+fn map_shape(field: TableIn) -> Option<Shape>
+    ensures { result ≡ map_shape field.entry.bytes.now field.entry.table }
 {
-    let Some(at) = field.target(bytes, 3)? else {
-        return Some(plainly(UNKNOWN));
-    };
-    let table = table_at(bytes, at)?;
-    union_shape(bytes, table, children)
-}
-
-fn map_shape(bytes: &[u8], field: Table) -> Option<Shape>
-    ensures { result ≡ map_shape bytes.now field }
-{
-    let there = field.has(bytes, 3)?;
+    let there = field.has(3)?;
     let row = Typed {
-        kind: 7,
-        flag: 0,
-        parameter: 0,
+        kind: if there { 7 } else { 0 },
+        ..Typed::default()
     };
-    Some(plainly(if there { row } else { UNKNOWN }))
+    Some(Shape::plain(row))
 }
 
 // The row of a field's type and its children's tags, by the type's number and how many children there are.
-pub fn shape(bytes: &[u8], field: Table, number: u8, children: u32) -> Option<Shape>
-    ensures { result ≡ shape_of bytes.now field number children }
+pub fn shape(field: TableIn, number: u8, children: u32) -> Option<Shape>
+    ensures { result ≡ shape_of field.entry.bytes.now field.entry.table number children }
 {
     if let Some(row) = plain_row(number) {
-        return Some(plainly(row));
+        return Some(Shape::plain(row));
     }
     match number {
-        14 => union_field(bytes, field, children),
-        17 => map_shape(bytes, field),
+        numbers::UNION => by_table(field, |table| union_shape(table, children)),
+        numbers::MAP => map_shape(field),
         _ => match table_type(number) {
-            Some(of) => table_shape(bytes, field, of),
-            None => Some(plainly(UNKNOWN)),
+            Some(of) => by_table(field, |table| table_row(table, of).map(Shape::plain)),
+            None => Some(Shape::plain(Typed::default())),
         },
     }
 }

@@ -1,16 +1,14 @@
-use Rattle.std.proofs.Common.{sym, arith}
-use Rattle.types.proofs.Ids.{one_fits, one_fails, id_is, id_there}
+use Rattle.std.proofs.Common.{rules, tests, ◌≡◌, ◌/◌, nat_lt, length, arith, ap, ◌∙◌}
+use Rattle.std.proofs.lemmas.Iterator.{YieldsList-from_slice}
+use Rattle.std.proofs.lemmas.Iterator.Search.{all_from_yields_List}
+use Rattle.std.specs.Simd.{first_chunks}
+use Rattle.little.specs.Numbers.{le}
+use Rattle.types.specs.Types.{ids_fit}
+use Rattle.types.proofs.Ids.{all_fit}
 use Rattle.types.proofs.unions.ids_fit.Goals as goal
 
-pub returns-then-id-ge128 : goal.returns-then-id-ge128
-returns-then-id-ge128 c =
-    let e = id_is c.args.ids.now c.loop-k.k c.in-Some.id c.args.n c.requires (omega arith) c.in-Some.ensures in
-    sym (one_fails c.args.ids.now c.args.n c.loop-k.k (omega arith) (omega (arith, e)))
-
-pub returns-in-None : goal.returns-in-None
-returns-in-None c = absurd (id_there c.args.ids.now c.loop-k.k c.args.n c.requires (omega arith) c.in-None.ensures)
-
-pub loop-k-preserved : goal.loop-k-preserved
-loop-k-preserved c =
-    let e = id_is c.args.ids.now c.loop-k.k c.in-Some.id c.args.n c.requires (omega arith) c.in-Some.ensures in
-    one_fits c.args.ids.now c.loop-k.k c.in-Some.id e (omega arith) c.loop-k.invariant
+pub returns : goal.returns
+returns c =
+    let n : length c.args.ids.now / 4 ≡ c.args.n = omega arith in
+    all_from_yields_List (λ id. nat_lt (le id) 128) _ _ c.all.result c.all.ensures.ran (YieldsList-from_slice (first_chunks 4 (length c.args.ids.now / 4) c.args.ids.now) cc) (λ x b q k. search (rules, tests))
+    ∙ all_fit (length c.args.ids.now / 4) c.args.ids.now ∙ ap (ids_fit c.args.ids.now) n

@@ -1,7 +1,0 @@
-use Rattle.std.proofs.Common.{sym, ap, ◌∙◌}
-use Rattle.std.specs.List.{slice_get}
-use Rattle.flatbuf.proofs.Told.{buffers_in_none}
-use Rattle.flatbuf.proofs.FlatBuffersReading.buffer.Goals as goal
-
-pub returns-in_err-batch : goal.returns-in_err-batch
-returns-in_err-batch c = c.from_residual.ensures ∙ ap (λ l. slice_get l c.args.k) (sym buffers_in_none ∙ c.in_err-batch.ensures.buffers)
