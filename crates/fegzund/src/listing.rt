@@ -2,7 +2,7 @@
 use crate::lines;
 use crate::text::Text;
 use framing::FrameHead;
-use message::{BatchFacts, Buffer, Fault, Header, NO_ROW, Node, Place, Reading};
+use message::{BatchFacts, Buffer, Fault, Header, Node, Place, Reading, Row};
 use std::io;
 use std::io::Write;
 
@@ -32,14 +32,8 @@ impl<W: Write + Drop> Listing<W> {
     pub(crate) fn new(out: W) -> Listing<W> {
         Listing {
             text: Text::new(out),
-            nodes: [Node {
-                length: 0,
-                nulls: 0,
-            }; ITEMS],
-            buffers: [Buffer {
-                offset: 0,
-                length: 0,
-            }; ITEMS],
+            nodes: [Node::default(); ITEMS],
+            buffers: [Buffer::default(); ITEMS],
             counts: [0; ITEMS],
         }
     }
@@ -73,7 +67,7 @@ impl<W: Write + Drop> Listing<W> {
     }
 
     fn rows<F: Reading>(&mut self, message: &Message<'_, F>, count: usize) -> io::Result<()> {
-        let mut table = [NO_ROW; ROWS];
+        let mut table = [Row::default(); ROWS];
         let n = message.reading.rows(message.bytes, &mut table);
         items(
             &mut self.text,

@@ -13,4 +13,4 @@ pub use headers::{BatchFacts, Facts, Header};
 pub use items::{Buffer, Node};
 pub use lists::{ItemList, Items};
 pub use readings::{ListSizes, Reading, Refused};
-pub use rows::{NO_ROW, Row};
+pub use rows::Row;

@@ -23,16 +23,6 @@ pub struct Row {
     pub end: u32,
 }
 
-// A row of zeros, for a table that is not filled yet.
-pub const NO_ROW: Row = Row {
-    kind: 0,
-    flag: 0,
-    tag: 0,
-    parameter: 0,
-    id: 0,
-    end: 0,
-};
-
 impl Row {
     // A row of 24 bytes, as the slip form has it.
     fn from_bytes(bytes: [u8; 24]) -> Row
