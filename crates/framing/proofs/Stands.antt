@@ -3,6 +3,7 @@ use Rattle.std.proofs.Common.{◌≡◌, ℕ, zero, suc, ◌<◌, ◌≤◌, Lis
 use Rattle.message.specs.declared.faults.Fault.{Fault}
 use Rattle.message.specs.declared.faults.Refusal.TheVariants.{Unfinished}
 use Rattle.message.specs.Faults.{bare}
+use Rattle.framing.specs.declared.openings.OpeningBytes.{OpeningBytes}
 use Rattle.framing.specs.declared.state.DecoderState.{DecoderState}
 use Rattle.framing.specs.declared.state.DecoderState.TheVariants.{Header, Stopped}
 use Rattle.framing.specs.declared.state.FrameDecoder.{FrameDecoder}
@@ -22,11 +23,10 @@ module _ (d : FrameDecoder) (m b : List ℕ) where
 pub holds_kept : (d d' : FrameDecoder) → Kept d d' → holds_of d' ≡ holds_of d
 holds_kept d d' k = ap (λ n. record { metadata = n; body = d'.body }) k.metadata ∙ ap (λ n. record { metadata = d.metadata; body = n }) k.body
 
--- some of an opening is there
-between : (bytes : List ℕ) (got : ℕ) → 0 < got → got ≤ length bytes → between_frames (take got bytes) ≡ Err (bare Unfinished)
-between bytes zero some k = absurd (omega arith)
-between [] (suc got) some k = absurd (omega arith)
-between (x ∷ bytes) (suc got) some k = refl
+-- some of an opening is there, or nothing
+between : (got : List ℕ) → 0 < length got → between_frames got ≡ Err (bare Unfinished)
+between [] some = absurd (omega arith)
+between (x ∷ got) some = refl
 
-pub inside_opening : (d : FrameDecoder) (bytes : List ℕ) (got : ℕ) → d.state ≡ Header bytes got → 0 < got → got ≤ length bytes → (f : Fault) → f ≡ bare Unfinished → Ends d (Err f)
-inside_opening d bytes got is some k f e = record { says = λ m b. ap Err e ∙ sym (ap end_at (stand_at d m b (Header bytes got) is) ∙ between bytes got some k) }
+pub inside_opening : (d : FrameDecoder) (s : OpeningBytes) → d.state ≡ Header s → 0 < length (take s.got s.bytes) → (f : Fault) → f ≡ bare Unfinished → Ends d (Err f)
+inside_opening d s is some f e = record { says = λ m b. ap Err e ∙ sym (ap end_at (stand_at d m b (Header s) is) ∙ between (take s.got s.bytes) some) }
