@@ -3,8 +3,7 @@ use Rattle.std.proofs.Common.{◌≡◌, ℕ, ◌+◌, ◌-◌, ◌<◌, ◌≤�
 use Rattle.std.proofs.lemmas.List.{length-take-le}
 use Rattle.std.proofs.lemmas.Bool.{cases_lt, le-leb, lt-leb, cond-true, cond-false}
 use Rattle.std.specs.Option.{option_map}
-use Rattle.little.specs.Numbers.{number_inside}
-use Rattle.little.proofs.Spelled.{number_outside}
+use Rattle.little.specs.Numbers.{number_inside, number_outside}
 use Rattle.message.specs.declared.faults.Fault.{Fault}
 use Rattle.message.specs.declared.faults.Place.{Place}
 use Rattle.framing.specs.declared.events.Event.{Event}

@@ -1,13 +1,15 @@
 -- Where a decoder stands, by its fields.
 use Rattle.std.proofs.Common.{◌≡◌, ℕ, zero, suc, ◌<◌, ◌≤◌, List, [], ◌∷◌, length, take, Err, sym, refl, ap, ◌∙◌, arith}
 use Rattle.message.specs.declared.faults.Fault.{Fault}
+use Rattle.message.specs.declared.faults.Place.{Place}
 use Rattle.message.specs.declared.faults.Refusal.TheVariants.{Unfinished}
 use Rattle.message.specs.Faults.{bare}
 use Rattle.framing.specs.declared.openings.OpeningBytes.{OpeningBytes}
 use Rattle.framing.specs.declared.state.DecoderState.{DecoderState}
 use Rattle.framing.specs.declared.state.DecoderState.TheVariants.{Header, Stopped}
 use Rattle.framing.specs.declared.state.FrameDecoder.{FrameDecoder}
-use Rattle.framing.specs.Steps.{stopped}
+use Rattle.framing.specs.Steps.{header, stopped}
+use Rattle.framing.specs.Streams.{start}
 use Rattle.framing.specs.Calls.{between_frames, end_at}
 use Rattle.framing.specs.Views.{state_stand, stand_of, holds_of, Ends}
 use Rattle.framing.specs.Turns.{Kept}
@@ -30,3 +32,7 @@ between (x ∷ got) some = refl
 
 pub inside_opening : (d : FrameDecoder) (s : OpeningBytes) → d.state ≡ Header s → 0 < length (take s.got s.bytes) → (f : Fault) → f ≡ bare Unfinished → Ends d (Err f)
 inside_opening d s is some f e = record { says = λ m b. ap Err e ∙ sym (ap end_at (stand_at d m b (Header s) is) ∙ between (take s.got s.bytes) some) }
+
+-- before the first byte
+pub at_start : (p : Place) (s : OpeningBytes) → p.message ≡ 0 → p.position ≡ 0 → s.got ≡ 0 → header p (take s.got s.bytes) ≡ header start []
+at_start p s a b none = ap (λ n. header p (take n s.bytes)) none ∙ ap (λ n. header (record { message = n; position = p.position }) []) a ∙ ap (λ n. header (record { message = 0; position = n }) []) b

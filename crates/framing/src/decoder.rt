@@ -76,10 +76,7 @@ impl FrameDecoder {
             metadata,
             body,
             state: DecoderState::Header(OpeningBytes::default()),
-            place: Place {
-                message: 0,
-                position: 0,
-            },
+            place: Place::default(),
         })
     }
 

@@ -3,7 +3,7 @@ use crate::openings::Opening;
 use message::{Facts, Place};
 
 // A frame that is whole: its metadata are the first bytes of their hold, its body those of the other.
-#[derive(Clone, Copy)]
+#[derive(Clone, Copy, Debug, PartialEq, Eq, Hash)]
 pub struct FrameHead {
     pub place: Place,
     pub opening: Opening,
@@ -12,7 +12,7 @@ pub struct FrameHead {
     pub body: usize,
 }
 
-#[derive(Clone, Copy)]
+#[derive(Clone, Copy, Debug, PartialEq, Eq, Hash)]
 pub enum Event {
     Frame { head: FrameHead },
     // the end mark
@@ -20,7 +20,7 @@ pub enum Event {
 }
 
 // How many bytes of the piece were used, and what the last of them made whole.
-#[derive(Clone, Copy, Default)]
+#[derive(Clone, Copy, Debug, Default, PartialEq, Eq, Hash)]
 pub struct Step {
     pub used: usize,
     pub event: Option<Event>,

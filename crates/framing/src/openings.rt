@@ -29,7 +29,7 @@ pub(crate) fn opening_len(marked: bool) -> usize
 }
 
 // The first `got` bytes of an opening, which has more. They are no `ArrayVec`: a state is `Copy`, and that is not.
-#[derive(Clone, Copy, Debug)]
+#[derive(Clone, Copy, Debug, PartialEq, Eq, Hash)]
 pub struct OpeningBytes {
     pub(crate) bytes: [u8; 8],
     pub(crate) got: usize,

@@ -6,7 +6,7 @@ use crate::events::FrameHead;
 use crate::openings::{Opening, OpeningBytes};
 use message::{Fault, Place};
 
-#[derive(Clone, Copy)]
+#[derive(Clone, Copy, Debug, PartialEq, Eq, Hash)]
 pub enum DecoderState {
     // between two frames, or in an opening
     Header(OpeningBytes),
@@ -18,7 +18,7 @@ pub enum DecoderState {
     Stopped { fault: Fault },
 }
 
-#[derive(Drop)]
+#[derive(Debug, Drop)]
 pub struct FrameDecoder {
     // the lengths of the two holds
     pub(crate) metadata: usize,
