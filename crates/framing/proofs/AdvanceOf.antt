@@ -21,9 +21,6 @@ pub record Sofar (e : Envelope) (h : Holds) (s : Stand) (piece rest : List ℕ) 
   pub kept : holds_of d ≡ h
   pub own : Own d m b
 
-pub none_so_far : (e : Envelope) (d : FrameDecoder) (m b piece : List ℕ) → Own d m b → Sofar e (holds_of d) (stand_of d m b) piece piece d m b
-none_so_far e d m b piece own = record { within = omega arith; moved = refl; kept = refl; own = own }
-
 module _ (e : Envelope) (d : FrameDecoder) (m b piece : List ℕ) where
   abbrev h : Holds
   h = holds_of d

@@ -1,18 +1,19 @@
 -- Openings, metadata and bodies in bulk: a block of bytes acts as one.
-use Rattle.std.proofs.Common.{◌≡◌, ℕ, ◌+◌, ◌-◌, ◌<◌, ◌≤◌, Bool, true, false, List, [], ◌∷◌, ◌++◌, length, take, drop, sym, refl, ap, ◌∙◌, subst, inl, inr, arith, length-append, take-append-drop}
-use Rattle.std.proofs.lemmas.List.{length-take, length-take-le, drop-take, take-take}
-use Rattle.std.proofs.lemmas.Bool.{ne_eqb, lt-ltb, le-ltb, cases_lt}
+use Rattle.std.proofs.Common.{◌≡◌, ℕ, ◌+◌, ◌-◌, ◌<◌, ◌≤◌, Bool, true, false, List, [], ◌∷◌, ◌++◌, length, take, drop, sym, refl, ap, ◌∙◌, subst, inl, inr, arith, length-append, length-drop, take-append-drop}
+use Rattle.std.proofs.lemmas.List.{length-take, length-take-le, take-append-le, drop-append-le}
+use Rattle.std.proofs.lemmas.Bool.{lt-ltb, le-ltb, cases_lt}
 use Rattle.little.specs.Numbers.{le, number_in}
 use Rattle.message.specs.declared.faults.Place.{Place}
 use Rattle.message.specs.declared.headers.Facts.{Facts}
 use Rattle.framing.specs.declared.openings.OpeningBytes.{OpeningBytes}
-use Rattle.framing.specs.Moves.{on, quiet, went_on, goes}
+use Rattle.framing.specs.Moves.{on, quiet, went_on}
 use Rattle.framing.specs.Frames.{Holds, Envelope, marks, opening, size_of}
 use Rattle.framing.specs.Steps.{header, metadata, body, opened, sized, gathered, filled, step}
 use Rattle.framing.specs.Turns.{Fills}
 use Rattle.framing.proofs.Blocks.{Acts}
 use Rattle.framing.proofs.Gathers.{Last, all, gathers}
 use Rattle.framing.proofs.OpeningOf.{short_unmarked}
+use Rattle.framing.proofs.Ways.{gathered_some, filled_some}
 
 -- a part of a front that is not full is not full
 less : (n : ℕ) (got xs : List ℕ) → length (got ++ xs) < n → length got < n
@@ -25,15 +26,13 @@ before n xs got h l = let a = length-append got l.front in omega (arith, l.long)
 pub metadata_acts : (h : Holds) (e : Envelope) (p : Place) (marked : Bool) (n : ℕ) (xs got : List ℕ) → length got < n → length got + length xs ≤ n → Acts (step h e) (metadata p marked n got) xs (gathered h e p marked n (got ++ xs))
 unfolding step
 metadata_acts h e p marked n xs got some fits =
-    let part : (l : List ℕ) → length l < n → gathered h e p marked n l ≡ on (metadata p marked n l) = λ l k. rw (ne_eqb (length l) n (λ d. omega arith), gathered) in
-    gathers (step h e) (metadata p marked n) (gathered h e p marked n) (λ got b. refl) (λ l. length l < n) (less n) part xs got some (before n xs got fits)
+    gathers (step h e) (metadata p marked n) (gathered h e p marked n) (λ got b. refl) (λ l. length l < n) (less n) (gathered_some h e p marked n) xs got some (before n xs got fits)
 
 -- a body, of which some is there
 pub body_acts : (h : Holds) (e : Envelope) (p : Place) (marked : Bool) (meta : List ℕ) (facts : Facts) (n : ℕ) (xs got : List ℕ) → length got < n → length got + length xs ≤ n → Acts (step h e) (body p marked meta facts n got) xs (filled p marked meta facts n (got ++ xs))
 unfolding step
 body_acts h e p marked meta facts n xs got some fits =
-    let part : (l : List ℕ) → length l < n → filled p marked meta facts n l ≡ on (body p marked meta facts n l) = λ l k. rw (ne_eqb (length l) n (λ d. omega arith), filled) in
-    gathers (step h e) (body p marked meta facts n) (filled p marked meta facts n) (λ got b. refl) (λ l. length l < n) (less n) part xs got some (before n xs got fits)
+    gathers (step h e) (body p marked meta facts n) (filled p marked meta facts n) (λ got b. refl) (λ l. length l < n) (less n) (filled_some p marked meta facts n) xs got some (before n xs got fits)
 
 -- the first four bytes say whether there is a marker
 pub marks_front : (xs ys : List ℕ) → 4 ≤ length xs → marks (xs ++ ys) ≡ marks xs
@@ -48,6 +47,33 @@ marks_front (a ∷ b ∷ c ∷ d ∷ xs) ys h = refl
 pub opening_bounds : (marked : Bool) → (4 ≤ opening marked) × (opening marked ≤ 8)
 opening_bounds true = (omega arith, omega arith)
 opening_bounds false = (omega arith, omega arith)
+
+number_front : (front ys : List ℕ) (k : ℕ) → k + 4 ≤ length front → number_in 4 (front ++ ys) k ≡ number_in 4 front k
+unfolding number_in
+number_front front ys k h =
+    ap (λ l. le (take 4 l)) (drop-append-le k front ys (omega arith)) ∙ ap le (take-append-le 4 (drop k front) ys (omega (arith, length-drop k front)))
+
+pub size_front : (front ys : List ℕ) → opening (marks front) ≤ length front → size_of (front ++ ys) ≡ size_of front
+size_front front ys h =
+    let l = opening_bounds (marks front) in
+    ap (λ b. number_in 4 (front ++ ys) (opening b - 4)) (marks_front front ys (omega arith)) ∙ number_front front ys (opening (marks front) - 4) (omega arith)
+
+-- an opening that is there whole
+module _ (bs : List ℕ) (k : ℕ) (is : k ≡ opening (marks bs)) (long : k ≤ length bs) where
+  pub front_long : length (take k bs) ≡ k
+  front_long = length-take-le k bs long
+
+  pub front_marks : marks (take k bs) ≡ marks bs
+  front_marks =
+      let l = front_long in
+      let b = opening_bounds (marks bs) in
+      sym (marks_front (take k bs) (drop k bs) (omega (arith, b.0))) ∙ ap marks (take-append-drop k bs)
+
+  pub front_size : size_of (take k bs) ≡ size_of bs
+  front_size =
+      let l = front_long in
+      let o = ap opening front_marks in
+      sym (size_front (take k bs) (drop k bs) (omega arith)) ∙ ap size_of (take-append-drop k bs)
 
 -- an opening that is not whole
 pub record Begun (got : List ℕ) : Type 0 where
@@ -108,34 +134,16 @@ pub opening_cut : (h : Holds) (e : Envelope) (p : Place) (bs : List ℕ) → Beg
 opening_cut h e p bs o = opening_acts h e p bs (λ l. opening_less l.front (l.byte ∷ []) (subst Begun l.is o)) ∙ ap (went_on [] quiet) (opening_some h p bs o)
 
 module _ (h : Holds) (e : Envelope) (p : Place) (bs : List ℕ) (k : ℕ) (is : k ≡ opening (marks bs)) (long : k ≤ length bs) where
-  front : length (take k bs) ≡ k
-  front = length-take-le k bs long
-
-  marked : marks (take k bs) ≡ marks bs
-  marked =
-      let l = front in
-      let b = opening_bounds (marks bs) in
-      sym (marks_front (take k bs) (drop k bs) (omega (arith, b.0))) ∙ ap marks (take-append-drop k bs)
-
-  size : size_of (take k bs) ≡ size_of bs
-  unfolding number_in
-  size =
-      let b = opening_bounds (marks bs) in
-      let n : k ≡ k - 4 + 4 = omega (arith, b.0) in
-      ap (λ m. number_in 4 (take k bs) (opening m - 4)) marked ∙ ap (λ j. number_in 4 (take k bs) (j - 4)) (sym is)
-      ∙ ap (λ j. le (take 4 (drop (k - 4) (take j bs)))) n ∙ ap (λ l. le (take 4 l)) (drop-take (k - 4) 4 bs) ∙ ap le (take-take 4 4 (drop (k - 4) bs) (omega arith))
-      ∙ ap (λ j. number_in 4 bs (j - 4)) is
-
   before_last : (l : Last (take k bs)) → Begun l.front
   before_last l =
-      let f = front in
+      let f = front_long bs k is long in
       let b = opening_bounds (marks l.front) in
       let c = opening_bounds (marks bs) in
       record {
         more = elim (cases_lt (length l.front) 4) [
           | inl j ↦ omega (arith, b.0)
           | inr j ↦
-              let m : marks l.front ≡ marks bs = sym (marks_front l.front (l.byte ∷ []) j) ∙ ap marks (sym l.is) ∙ marked in
+              let m : marks l.front ≡ marks bs = sym (marks_front l.front (l.byte ∷ []) j) ∙ ap marks (sym l.is) ∙ front_marks bs k is long in
               let o = ap opening m in
               omega (arith, l.long)
         ];
@@ -144,6 +152,6 @@ module _ (h : Holds) (e : Envelope) (p : Place) (bs : List ℕ) (k : ℕ) (is : 
   -- an opening that is there whole
   pub opening_all : Acts (step h e) (header p []) (take k bs) (sized h p (marks bs) (size_of bs))
   opening_all =
-      let f = front in
-      let o = ap opening marked in
-      opening_acts h e p (take k bs) before_last ∙ ap (went_on [] quiet) (opening_whole h p (take k bs) (omega arith) ∙ ap (λ m. sized h p m (size_of (take k bs))) marked ∙ ap (sized h p (marks bs)) size)
+      let f = front_long bs k is long in
+      let o = ap opening (front_marks bs k is long) in
+      opening_acts h e p (take k bs) before_last ∙ ap (went_on [] quiet) (opening_whole h p (take k bs) (omega arith) ∙ ap (λ m. sized h p m (size_of (take k bs))) (front_marks bs k is long) ∙ ap (sized h p (marks bs)) (front_size bs k is long))

@@ -13,12 +13,12 @@ use Rattle.framing.specs.declared.openings.Opening.{Opening}
 use Rattle.framing.specs.declared.openings.OpeningBytes.{OpeningBytes}
 use Rattle.framing.specs.declared.state.DecoderState.TheVariants.{Header, Finished}
 use Rattle.framing.specs.declared.state.FrameDecoder.{FrameDecoder}
-use Rattle.framing.specs.Moves.{on, shows}
+use Rattle.framing.specs.Moves.{shows}
 use Rattle.framing.specs.Frames.{Holds, Envelope, frame, end, behind, marks, opening, size_of, body_length, at_most, length_of}
 use Rattle.framing.specs.Steps.{header, ended, sized, opened, filled, told, bodied, gathered}
 use Rattle.framing.specs.Views.{stand_of, holds_of}
 use Rattle.framing.specs.Turns.{opening_in, Kept, Moves, Sized, Opened, Filled, Gathered}
-use Rattle.framing.proofs.Fills.{Begun, begun, opening_bounds, opening_some, opening_whole}
+use Rattle.framing.proofs.Fills.{Begun, opening_bounds, opening_whole}
 use Rattle.framing.proofs.Ways.{sized_end, gathered_all, filled_all, framed}
 use Rattle.framing.proofs.Stands.{stand_at}
 
@@ -49,24 +49,18 @@ module _ (bs : List ℕ) where
   pub not_whole : opening_in bs ≡ None → Begun bs
   not_whole none = elim (cases_lt (length bs) (opening (marks bs))) [
     | inl k ↦ record { more = k }
-    | inr k ↦ let e = found k in let z : ◌≡◌ {A = ℕ} 0 1 = cc in absurd (omega arith)
+    | inr k ↦ let e = found k in cc
   ]
 
   pub whole : (h : Holds) (p : Place) (o : Opening) → opening_in bs ≡ Some o → opened h p bs ≡ sized h p o.marked o.size
   unfolding with_size
   whole h p o some = elim (cases_lt (length bs) (opening (marks bs))) [
-    | inl k ↦ let e = not_found k in let z : ◌≡◌ {A = ℕ} 0 1 = cc in absurd (omega arith)
+    | inl k ↦ let e = not_found k in cc
     | inr k ↦
         let e = found k in
         let s : with_size (size_of bs) ≡ o = cc in
         opening_whole h p bs k ∙ ap (λ q. sized h p q.marked q.size) s
   ]
-
-pub opening_more : (d d' : FrameDecoder) (s : OpeningBytes) (bs : List ℕ) → take s.got s.bytes ≡ bs → Kept d d' → d'.state ≡ Header s → d'.place ≡ d.place → Opened bs d (Ok None) d'
-opening_more d d' s bs at kept is place m b = record {
-  by = ap (opened (holds_of d) d.place) (sym at) ∙ opening_some (holds_of d) d.place (take s.got s.bytes) (begun s) ∙ ap (λ p. on (header p (take s.got s.bytes))) (sym place) ∙ ap on (sym (stand_at d' m b (Header s) is));
-  kept = kept;
-}
 
 pub opening_sized : (d d' : FrameDecoder) (bs : List ℕ) (o : Opening) (r : Result (Option Event) Fault) → opening_in bs ≡ Some o → Sized o d r d' → Opened bs d r d'
 opening_sized d d' bs o r e s m b = subst (λ v. Moves v d r d' m b) (sym (whole bs (holds_of d) d.place o e)) (s m b)
@@ -94,10 +88,10 @@ frame_whole d d' head got full kept s none is place m b fits within =
 -- metadata that are whole, with a body to come
 at_most_lem : (most n : ℕ) (z : ℤ) → at_most most z ≡ Some n → n ≤ most
 at_most_lem most n (pos k) e = elim (cases_lt most k) [
-  | inl l ↦ let c : cond (leb k most) (Some k) None ≡ None = cond-false (leb k most) (Some k) None (lt-leb k most l) in let z : ◌≡◌ {A = ℕ} 0 1 = cc in absurd (omega arith)
+  | inl l ↦ let c : cond (leb k most) (Some k) None ≡ None = cond-false (leb k most) (Some k) None (lt-leb k most l) in cc
   | inr l ↦ let c : cond (leb k most) (Some k) None ≡ Some k = cond-true (leb k most) (Some k) None (le-leb k most l) in let d : n ≡ k = cc in omega arith
 ]
-at_most_lem most n (negsuc k) e = let z : ◌≡◌ {A = ℕ} 0 1 = cc in absurd (omega arith)
+at_most_lem most n (negsuc k) e = cc
 
 pub metadata_whole : (e : Envelope) (d d' : FrameDecoder) (m : List ℕ) (head : FrameHead) (got : ℕ) (o : Option Event) → length m ≡ d.metadata → head.opening.size ≤ d.metadata → got ≡ head.opening.size → head.place ≡ d.place → e (take got m) ≡ Ok head.facts → body_length (holds_of d) head.facts ≡ Some head.body → Filled head 0 d o d' → Gathered e m head.opening got d (Ok o) d'
 metadata_whole e d d' m head got o own fits full here told-ok some moved b long =

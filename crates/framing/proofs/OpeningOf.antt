@@ -5,7 +5,6 @@ use Rattle.std.specs.Option.{option_map}
 use Rattle.std.proofs.lemmas.List.{drop-drop, get_or_past}
 use Rattle.std.proofs.lemmas.Bool.{cases_lt, ne_eqb, and_right}
 use Rattle.little.specs.Numbers.{le, number_in, number_at, number_inside, number_outside}
-use Rattle.framing.specs.declared.openings.Opening.{Opening}
 use Rattle.framing.specs.Frames.{marks, opening}
 use Rattle.framing.specs.Turns.{opening_in}
 

@@ -23,6 +23,7 @@ fn behind(place: Place, n: usize) -> Place
 }
 
 // What follows the continuation marker, where the bytes open with it.
+#[tactic(auto, using(crate::proofs::OpeningOf::short_unmarked, std::proofs::lemmas::Bool::Decides::nat_tests, std::proofs::lemmas::List::take_rest), unfolding(crate::specs::Frames::marks))]
 pub(crate) fn behind_marker(bytes: &[u8]) -> Option<&[u8]>
     ensures { MatchOption result (marks bytes.now ≡ false) (λ rest. (4 ≤ length bytes.now) × (marks bytes.now ≡ true) × (rest.now ≡ drop 4 bytes.now)) }
 {
@@ -107,6 +108,7 @@ impl FrameDecoder {
     }
 
     // Whether the stream may stop here.
+    #[tactic(auto, using(crate::proofs::Stands::inside_opening))]
     pub fn check_end(&self) -> Result<(), Fault>
         ensures { Ends self.now result }
     {
@@ -159,7 +161,8 @@ impl FrameDecoder {
         }
     }
 
-    // The first `got` bytes of a frame's body, whole or not.
+    // The first `got` bytes of a frame's body, whole or not. The bounds are clauses here and at `gathered`, and not facts of
+    // the head, since they compare it with this decoder's holds.
     fn filled(&mut self, head: FrameHead, got: usize) -> Option<Event>
         requires size { head.opening.size ≤ self.old.metadata }
         requires length { head.body ≤ self.old.body }

@@ -1,5 +1,5 @@
-use Rattle.std.proofs.Common.{◌≡◌, ◌+◌, ◌-◌, ◌≤◌, ap, length, take, ◌∙◌, rules}
-use Rattle.framing.specs.Frames.{marks, opening}
+use Rattle.std.proofs.Common.{◌-◌, ap, take, ◌∙◌, rules}
+use Rattle.framing.specs.Frames.{opening}
 use Rattle.framing.proofs.Fills.{opening_filled}
 use Rattle.framing.proofs.OpeningOf.{is_marked}
 use Rattle.framing.proofs.openings.OpeningBytes.fill.Goals as goal

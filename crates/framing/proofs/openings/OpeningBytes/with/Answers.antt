@@ -1,4 +1,4 @@
-use Rattle.std.proofs.Common.{◌≡◌, ◌+◌, ◌<◌, length, take, set, ◌∙◌, sym, arith, rules, length-set}
+use Rattle.std.proofs.Common.{◌+◌, ◌<◌, length, take, set, ◌∙◌, sym, arith, rules, length-set}
 use Rattle.std.proofs.lemmas.List.{length-take-le}
 use Rattle.framing.proofs.MovesOf.{not_whole}
 use Rattle.framing.proofs.openings.OpeningBytes.with.Goals as goal
