@@ -127,7 +127,7 @@ impl<'a, F: Reading, W: Write + Drop> Inspection<'a, F, W> {
                 Some(Event::Frame { head }) => {
                     let message = Message {
                         reading: self.reading,
-                        bytes: self.metadata.get(..head.size).unwrap_or(&[]),
+                        bytes: self.metadata.get(..head.opening.size).unwrap_or(&[]),
                     };
                     self.listing.frame(head, &message)?;
                 }

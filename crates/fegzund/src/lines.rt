@@ -37,8 +37,8 @@ pub(crate) fn end_mark<W: Write + Drop>(text: &mut Text<W>, place: &Place) -> io
 pub(crate) fn frame<W: Write + Drop>(text: &mut Text<W>, head: &FrameHead) -> io::Result<()> {
     text.make_room()?;
     placed(text, "frame ", &head.place);
-    text.mark(" marker ", head.marked);
-    text.number(" size ", head.size as u64);
+    text.mark(" marker ", head.opening.marked);
+    text.number(" size ", head.opening.size as u64);
     text.signed(" version ", i64::from(head.facts.version));
     text.number(" type ", u64::from(header_type(&head.facts.header)));
     text.number(" body ", head.body as u64);
