@@ -6,6 +6,7 @@ ghost use Rattle.schemas.specs.Kinds.{kinds};
 
 use std::error::Error;
 use std::fmt;
+use types::kinds;
 
 #[derive(Clone, Copy, Debug, PartialEq, Eq, Hash)]
 pub enum Kind {
@@ -37,21 +38,21 @@ impl TryFrom<u8> for Kind {
 
     fn try_from(number: u8) -> Result<Kind, NoKind> {
         match number {
-            1 => Ok(Kind::Null),
-            2 => Ok(Kind::Bool),
-            3 => Ok(Kind::Fixed),
-            4 => Ok(Kind::Binary),
-            5 => Ok(Kind::LargeBinary),
-            6 => Ok(Kind::View),
-            7 => Ok(Kind::List),
-            8 => Ok(Kind::LargeList),
-            9 => Ok(Kind::ListView),
-            10 => Ok(Kind::LargeListView),
-            11 => Ok(Kind::FixedSizeList),
-            12 => Ok(Kind::Struct),
-            13 => Ok(Kind::Dictionary),
-            14 => Ok(Kind::SparseUnion),
-            15 => Ok(Kind::DenseUnion),
+            kinds::NULL => Ok(Kind::Null),
+            kinds::BOOL => Ok(Kind::Bool),
+            kinds::FIXED => Ok(Kind::Fixed),
+            kinds::BINARY => Ok(Kind::Binary),
+            kinds::LARGE_BINARY => Ok(Kind::LargeBinary),
+            kinds::VIEW => Ok(Kind::View),
+            kinds::LIST => Ok(Kind::List),
+            kinds::LARGE_LIST => Ok(Kind::LargeList),
+            kinds::LIST_VIEW => Ok(Kind::ListView),
+            kinds::LARGE_LIST_VIEW => Ok(Kind::LargeListView),
+            kinds::FIXED_SIZE_LIST => Ok(Kind::FixedSizeList),
+            kinds::STRUCT => Ok(Kind::Struct),
+            kinds::DICTIONARY => Ok(Kind::Dictionary),
+            kinds::SPARSE_UNION => Ok(Kind::SparseUnion),
+            kinds::DENSE_UNION => Ok(Kind::DenseUnion),
             _ => Err(NoKind(number)),
         }
     }
