@@ -1,138 +1,159 @@
 // The frames of a stream, block by block.
-use crate::listing::Listing;
+use crate::listing::{Listing, Message};
 use crate::options::{Form, Options};
-use anyhow::anyhow;
+use anyhow::{Result, anyhow, bail};
 use flatbuf::FlatBuffers;
-use framing::FrameDecoder;
-use message::Reading;
+use framing::{Event, FrameDecoder};
+use message::{Fault, Reading};
 use slip::Slip;
 use std::alloc::Global;
 use std::fs::File;
-use std::io::Read;
+use std::io;
+use std::io::{Read, Write};
+use std::process::ExitCode;
+use std::rt::Files;
 
 // How many bytes are read at a time.
 const BLOCK: usize = 262144;
 
-// Lists the stream, and says whether it is accepted.
-pub(crate) fn inspect(rt: &HostRuntime, options: Options) -> anyhow::Result<bool> {
-    if options.file.as_str() == "-" {
-        let mut source = rt.stdin();
-        return read_as(rt, &options, &mut source);
-    }
-    let mut source = match File::open(rt, options.file.as_str()) {
-        Ok(file) => file,
-        Err(e) => {
-            let file = options.file.as_str();
-            return Err(anyhow!(format!(in rt.alloc();
-                "can't open '{file}': {e}; give a file that can be read"
-            )?));
-        }
-    };
-    read_as(rt, &options, &mut source)
+// What is made of a stream.
+#[derive(Clone, Copy)]
+pub(crate) enum Verdict {
+    Accepted,
+    Refused,
 }
 
-fn read_as<S: Read>(rt: &HostRuntime, options: &Options, source: &mut S) -> anyhow::Result<bool> {
+impl From<Verdict> for ExitCode {
+    fn from(verdict: Verdict) -> ExitCode {
+        match verdict {
+            Verdict::Accepted => ExitCode::SUCCESS,
+            Verdict::Refused => ExitCode::FAILURE,
+        }
+    }
+}
+
+// Lists the frames of a stream.
+pub(crate) fn inspect<R: Files + Input + Print + AllocGlobal>(
+    rt: &R,
+    options: &Options,
+) -> Result<Verdict> {
+    let file = options.file.as_str();
+    if file == "-" {
+        return read_as(rt, options, rt.reader());
+    }
+    let source = File::open(rt, file).map_err(|e| unreadable("open", file, &e))?;
+    read_as(rt, options, source)
+}
+
+fn unreadable(step: &str, file: &str, error: &io::Error) -> anyhow::Error {
+    anyhow!("can't {step} '{file}': {error}; give a file that can be read")
+}
+
+fn read_as<R: Print + AllocGlobal, S: Read + Drop>(
+    rt: &R,
+    options: &Options,
+    source: S,
+) -> Result<Verdict> {
     match options.form {
         Form::FlatBuffers => list(rt, &FlatBuffers, options, source),
         Form::Slip => list(rt, &Slip, options, source),
     }
 }
 
-fn list<R: Reading, S: Read>(
-    rt: &HostRuntime,
-    reading: &R,
+fn list<R: Print + AllocGlobal, F: Reading, S: Read + Drop>(
+    rt: &R,
+    reading: &F,
     options: &Options,
-    source: &mut S,
-) -> anyhow::Result<bool> {
-    let mut inspection = Inspection::new(rt.alloc(), options)?;
+    mut source: S,
+) -> Result<Verdict> {
+    let mut inspection = Inspection::new(rt.alloc(), reading, options, io::writer(rt))?;
     let mut block = vec![in rt.alloc(); 0u8; BLOCK]?;
+    let file = options.file.as_str();
     for _ in 0..u64::MAX {
-        let n = match source.read(block.as_mut_slice()) {
+        // no map_err: tried, and the bound on n was not proved behind it
+        let n = match source.read(&mut block) {
             Ok(n) => n,
-            Err(e) => {
-                let file = options.file.as_str();
-                return Err(anyhow!(format!(in rt.alloc();
-                    "can't read '{file}': {e}; give a file that can be read"
-                )?));
-            }
+            Err(e) => return Err(unreadable("read", file, &e)),
         };
         if n == 0 {
             break;
         }
-        let bytes = block.as_slice().get(0..n).unwrap_or(&[]);
-        if !inspection.block(rt, reading, bytes)? {
-            return Ok(false);
+        if let Some(fault) = inspection.block(&block[..n])? {
+            return inspection.refuse(fault);
         }
     }
-    inspection.end(rt)
+    inspection.end()
 }
 
 // A stream that is being listed.
 #[derive(Drop)]
-struct Inspection {
+struct Inspection<'a, F, W: Write + Drop> {
+    reading: &'a F,
     decoder: FrameDecoder,
     metadata: Vec<u8>,
     body: Vec<u8>,
-    listing: Listing,
+    listing: Listing<W>,
 }
 
-impl Inspection {
-    fn new(heap: Global, options: &Options) -> anyhow::Result<Inspection> {
+impl<'a, F: Reading, W: Write + Drop> Inspection<'a, F, W> {
+    fn new(heap: Global, reading: &'a F, options: &Options, out: W) -> Result<Self> {
         let Ok(decoder) = FrameDecoder::new(options.metadata, options.body) else {
-            return Err(anyhow!(
-                "the holds are too short or too long; write 'fegzund help' for their lengths"
-            ));
+            bail!("the holds are too short or too long; write 'fegzund help' for their lengths");
         };
         Ok(Inspection {
+            reading,
             decoder,
             metadata: vec![in heap; 0u8; options.metadata]?,
             body: vec![in heap; 0u8; options.body]?,
-            listing: Listing::new(),
+            listing: Listing::new(out),
         })
     }
 
-    // The frames that a block makes whole; false where the stream is refused.
-    fn block<R: Reading>(
-        &mut self,
-        rt: &HostRuntime,
-        reading: &R,
-        block: &[u8],
-    ) -> anyhow::Result<bool> {
+    // Lists the frames that a block makes whole; the fault of one that is refused.
+    fn block(&mut self, block: &[u8]) -> Result<Option<Fault>> {
         let mut rest = block;
         // each turn uses a byte at least
         for _ in 0..block.len() {
-            match self.decoder.advance(
-                reading,
-                self.metadata.as_mut_slice(),
-                self.body.as_mut_slice(),
-                rest,
-            ) {
-                Ok(step) => {
-                    rest = rest.get(step.used..).unwrap_or(&[]);
-                    if let Some(event) = &step.event {
-                        self.listing
-                            .event(rt, reading, self.metadata.as_slice(), event)?;
-                    }
+            let step = match self
+                .decoder
+                .advance(self.reading, &mut self.metadata, &mut self.body, rest)
+            {
+                Ok(step) => step,
+                Err(fault) => return Ok(Some(fault)),
+            };
+            rest = rest.get(step.used..).unwrap_or(&[]);
+            match &step.event {
+                Some(Event::End { place }) => self.listing.end_mark(place)?,
+                Some(Event::Frame { head }) => {
+                    let message = Message {
+                        reading: self.reading,
+                        bytes: self.metadata.get(..head.size).unwrap_or(&[]),
+                    };
+                    self.listing.frame(head, &message)?;
                 }
-                Err(fault) => {
-                    self.listing.refused(rt, fault)?;
-                    self.listing.write(rt)?;
-                    return Ok(false);
-                }
+                None => {}
             }
             if rest.is_empty() {
                 break;
             }
         }
-        Ok(true)
+        Ok(None)
+    }
+
+    fn refuse(&mut self, fault: Fault) -> Result<Verdict> {
+        self.listing.refused(&fault)?;
+        self.listing.flush()?;
+        Ok(Verdict::Refused)
     }
 
     // The last line; whether the stream is accepted.
-    fn end(&mut self, rt: &HostRuntime) -> anyhow::Result<bool> {
+    fn end(&mut self) -> Result<Verdict> {
         let end = self.decoder.check_end();
-        let accepted = end.is_ok();
-        self.listing.finish(rt, end)?;
-        self.listing.write(rt)?;
-        Ok(accepted)
+        self.listing.finish(&end)?;
+        self.listing.flush()?;
+        match end {
+            Ok(()) => Ok(Verdict::Accepted),
+            Err(_) => Ok(Verdict::Refused),
+        }
     }
 }

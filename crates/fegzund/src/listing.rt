@@ -1,198 +1,137 @@
 // The listing of a stream, frame by frame.
-use crate::lines::{
-    BatchLine, BufferLine, CountLine, DictionaryLine, EndLine, FinishLine, FrameLine, NodeLine,
-    RefusedLine, RowLine,
-};
+use crate::lines;
 use crate::text::Text;
-use framing::Event;
-use message::{BatchFacts, Buffer, Fault, Header, NO_ROW, Node, Reading};
+use framing::FrameHead;
+use message::{BatchFacts, Buffer, Fault, Header, Node, Place, Reading, Row};
+use std::io;
+use std::io::Write;
 
 // How many items of a list are asked for at once.
 const ITEMS: usize = 64;
 
-// Lines that are not written yet, and tables for the items of a batch.
+// How many rows of a schema are asked for at once.
+const ROWS: usize = 256;
+
+// The metadata of a message, and how they are read.
 #[derive(Drop)]
-pub(crate) struct Listing {
-    text: Text,
+pub(crate) struct Message<'a, F> {
+    pub(crate) reading: &'a F,
+    pub(crate) bytes: &'a [u8],
+}
+
+// Where the lines go, and tables for the items of a batch.
+#[derive(Drop)]
+pub(crate) struct Listing<W: Write + Drop> {
+    text: Text<W>,
     nodes: [Node; ITEMS],
     buffers: [Buffer; ITEMS],
     counts: [i64; ITEMS],
 }
 
-impl Listing {
-    pub(crate) fn new() -> Listing {
+impl<W: Write + Drop> Listing<W> {
+    pub(crate) fn new(out: W) -> Listing<W> {
         Listing {
-            text: Text::new(),
-            nodes: [Node {
-                length: 0,
-                nulls: 0,
-            }; ITEMS],
-            buffers: [Buffer {
-                offset: 0,
-                length: 0,
-            }; ITEMS],
+            text: Text::new(out),
+            nodes: [Node::default(); ITEMS],
+            buffers: [Buffer::default(); ITEMS],
             counts: [0; ITEMS],
         }
     }
 
-    pub(crate) fn write(&mut self, rt: &HostRuntime) -> anyhow::Result<()> {
-        self.text.write(rt)
+    pub(crate) fn flush(&mut self) -> io::Result<()> {
+        self.text.flush()
     }
 
-    pub(crate) fn event<R: Reading>(
-        &mut self,
-        rt: &HostRuntime,
-        reading: &R,
-        metadata: &[u8],
-        event: &Event,
-    ) -> anyhow::Result<()> {
-        match event {
-            Event::End { place } => self.text.line(rt, &EndLine { place: *place }),
-            Event::Frame { head } => {
-                let metadata = metadata.get(0..head.size).unwrap_or(&[]);
-                self.text.line(rt, &FrameLine { head })?;
-                self.contents(rt, reading, metadata, &head.facts.header)
-            }
-        }
+    pub(crate) fn end_mark(&mut self, place: &Place) -> io::Result<()> {
+        lines::end_mark(&mut self.text, place)
     }
 
-    fn contents<R: Reading>(
+    pub(crate) fn frame<F: Reading>(
         &mut self,
-        rt: &HostRuntime,
-        reading: &R,
-        metadata: &[u8],
-        header: &Header,
-    ) -> anyhow::Result<()> {
-        match header {
-            Header::Schema { rows } => self.rows(rt, reading, metadata, *rows),
+        head: &FrameHead,
+        message: &Message<'_, F>,
+    ) -> io::Result<()> {
+        lines::frame(&mut self.text, head)?;
+        match &head.facts.header {
+            Header::Schema { rows } => self.rows(message, *rows),
             Header::DictionaryBatch { id, delta, data } => {
-                self.text.line(
-                    rt,
-                    &DictionaryLine {
-                        id: *id,
-                        delta: *delta,
-                        facts: data,
-                    },
-                )?;
-                self.lists(rt, reading, metadata, data)
+                lines::dictionary(&mut self.text, *id, *delta, data)?;
+                self.lists(message, data)
             }
             Header::RecordBatch { data } => {
-                self.text.line(rt, &BatchLine { facts: data })?;
-                self.lists(rt, reading, metadata, data)
+                lines::batch(&mut self.text, data)?;
+                self.lists(message, data)
             }
             Header::Empty | Header::Other { .. } => Ok(()),
         }
     }
 
-    // The rows of a schema: those that a table has room for at once, and then any others.
-    fn rows<R: Reading>(
-        &mut self,
-        rt: &HostRuntime,
-        reading: &R,
-        metadata: &[u8],
-        count: usize,
-    ) -> anyhow::Result<()> {
-        let mut table = [NO_ROW; 256];
-        let n = reading.rows(metadata, &mut table);
-        for (k, row) in table.iter().take(n).enumerate() {
-            self.text.line(rt, &RowLine { k, row })?;
-        }
-        for k in n..count {
-            if let Some(row) = reading.row(metadata, k) {
-                self.text.line(rt, &RowLine { k, row: &row })?;
-            }
-        }
-        Ok(())
+    fn rows<F: Reading>(&mut self, message: &Message<'_, F>, count: usize) -> io::Result<()> {
+        let mut table = [Row::default(); ROWS];
+        let n = message.reading.rows(message.bytes, &mut table);
+        items(
+            &mut self.text,
+            count,
+            &table[..n],
+            |k| message.reading.row(message.bytes, k),
+            lines::row,
+        )
     }
 
-    // The lists of a batch: the items that the tables have room for at once, and then any others.
-    fn lists<R: Reading>(
+    fn lists<F: Reading>(
         &mut self,
-        rt: &HostRuntime,
-        reading: &R,
-        metadata: &[u8],
+        message: &Message<'_, F>,
         facts: &BatchFacts,
-    ) -> anyhow::Result<()> {
-        let sizes = reading.lists(
-            metadata,
-            &mut self.nodes,
-            &mut self.buffers,
-            &mut self.counts,
-        );
-        for k in 0..sizes.nodes {
-            let node = &self.nodes[k];
-            self.text.line(rt, &NodeLine { k, node })?;
-        }
-        self.more_nodes(rt, reading, metadata, sizes.nodes, facts.nodes)?;
-        for k in 0..sizes.buffers {
-            let buffer = &self.buffers[k];
-            self.text.line(rt, &BufferLine { k, buffer })?;
-        }
-        self.more_buffers(rt, reading, metadata, sizes.buffers, facts.buffers)?;
-        for k in 0..sizes.counts {
-            let value = self.counts[k];
-            self.text.line(rt, &CountLine { k, value })?;
-        }
-        self.more_counts(rt, reading, metadata, sizes.counts, facts.counts)
+    ) -> io::Result<()> {
+        let Message { reading, bytes } = message;
+        let sizes = reading.lists(bytes, &mut self.nodes, &mut self.buffers, &mut self.counts);
+        items(
+            &mut self.text,
+            facts.nodes,
+            &self.nodes[..sizes.nodes],
+            |k| reading.node(bytes, k),
+            lines::node,
+        )?;
+        items(
+            &mut self.text,
+            facts.buffers,
+            &self.buffers[..sizes.buffers],
+            |k| reading.buffer(bytes, k),
+            lines::buffer,
+        )?;
+        items(
+            &mut self.text,
+            facts.counts,
+            &self.counts[..sizes.counts],
+            |k| reading.count(bytes, k),
+            lines::count,
+        )
     }
 
-    fn more_nodes<R: Reading>(
-        &mut self,
-        rt: &HostRuntime,
-        reading: &R,
-        metadata: &[u8],
-        from: usize,
-        to: usize,
-    ) -> anyhow::Result<()> {
-        for k in from..to {
-            if let Some(node) = reading.node(metadata, k) {
-                self.text.line(rt, &NodeLine { k, node: &node })?;
-            }
+    pub(crate) fn refused(&mut self, fault: &Fault) -> io::Result<()> {
+        lines::refused(&mut self.text, fault)
+    }
+
+    pub(crate) fn finish(&mut self, end: &Result<(), Fault>) -> io::Result<()> {
+        lines::finish(&mut self.text, end)
+    }
+}
+
+// The lines of a list: those of its items that a table holds, and of any others that are asked for.
+fn items<W, T: Copy, A: Fn(usize) -> Option<T>, L: Fn(&mut W, usize, &T) -> io::Result<()>>(
+    text: &mut W,
+    count: usize,
+    table: &[T],
+    ask: A,
+    line: L,
+) -> io::Result<()>
+    requires asks { A.IsAlwaysCallable ask }
+    requires writes { L.IsAlwaysCallable line }
+{
+    for k in 0..count {
+        if let Some(item) = table.get(k).copied().or_else(|| ask(k)) {
+            line(text, k, &item)?;
         }
-        Ok(())
     }
-
-    fn more_buffers<R: Reading>(
-        &mut self,
-        rt: &HostRuntime,
-        reading: &R,
-        metadata: &[u8],
-        from: usize,
-        to: usize,
-    ) -> anyhow::Result<()> {
-        for k in from..to {
-            if let Some(buffer) = reading.buffer(metadata, k) {
-                self.text.line(rt, &BufferLine { k, buffer: &buffer })?;
-            }
-        }
-        Ok(())
-    }
-
-    fn more_counts<R: Reading>(
-        &mut self,
-        rt: &HostRuntime,
-        reading: &R,
-        metadata: &[u8],
-        from: usize,
-        to: usize,
-    ) -> anyhow::Result<()> {
-        for k in from..to {
-            if let Some(value) = reading.count(metadata, k) {
-                self.text.line(rt, &CountLine { k, value })?;
-            }
-        }
-        Ok(())
-    }
-
-    pub(crate) fn refused(&mut self, rt: &HostRuntime, fault: Fault) -> anyhow::Result<()> {
-        self.text.line(rt, &RefusedLine { fault })
-    }
-
-    pub(crate) fn finish(
-        &mut self,
-        rt: &HostRuntime,
-        end: Result<(), Fault>,
-    ) -> anyhow::Result<()> {
-        self.text.line(rt, &FinishLine { end })
-    }
+    Ok(())
 }

@@ -6,33 +6,27 @@ mod lines;
 mod listing;
 mod options;
 mod text;
-mod words;
 
 use crate::inspect::inspect;
 use crate::options::{Command, HELP, parse};
 use std::env;
-use std::io::Write;
 use std::process::ExitCode;
+use std::rt::{Env, Files};
 
-fn run(rt: &HostRuntime) -> anyhow::Result<bool> {
-    let mut words = Vec::new(rt.alloc());
-    for word in env::args(rt)? {
-        words.push(word)?;
-    }
-    match parse(rt.alloc(), words.as_slice())? {
+fn run<R: Env + Files + Input + Print + AllocGlobal>(rt: &R) -> anyhow::Result<ExitCode> {
+    match parse(env::args(rt)?)? {
         Command::Help => {
-            rt.stdout().write_all(HELP.as_bytes())?;
-            Ok(true)
+            rt.write_all(HELP.as_bytes())?;
+            Ok(ExitCode::SUCCESS)
         }
-        Command::Inspect(options) => inspect(rt, options),
+        Command::Inspect(options) => Ok(inspect(rt, &options)?.into()),
     }
 }
 
 // What is wrong has been said where the status is no success.
 fn main(rt: HostRuntime) -> ExitCode {
     match run(&rt) {
-        Ok(true) => ExitCode::SUCCESS,
-        Ok(false) => ExitCode::FAILURE,
+        Ok(status) => status,
         Err(e) => {
             let _ = eprintln!(rt; "fegzund: {e}");
             ExitCode::FAILURE

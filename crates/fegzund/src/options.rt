@@ -1,6 +1,10 @@
 // The words of the command line.
-use anyhow::anyhow;
-use std::alloc::Global;
+ghost use Rattle.std.specs.Prelude.{◌≤◌, length};
+ghost use Rattle.std.specs.Vec.Iter.{into_iter_items};
+
+use anyhow::{Result, bail};
+use std::env::Args;
+use std::str::FromStr;
 
 pub(crate) const HELP: &str = "\
 fegzund: lists what a recorded Arrow IPC stream holds
@@ -42,6 +46,23 @@ pub(crate) enum Form {
     Slip,
 }
 
+impl FromStr for Form {
+    type Err = anyhow::Error;
+
+    fn from_str(word: &str) -> Result<Form> {
+        match word {
+            "flatbuffers" => Ok(Form::FlatBuffers),
+            "slip" => Ok(Form::Slip),
+            other => bail!("--reading takes 'flatbuffers' or 'slip', not '{other}'"),
+        }
+    }
+}
+
+// The longest metadata and the longest body that a frame may have.
+const LONGEST_METADATA: usize = 1048576;
+
+const LONGEST_BODY: usize = 16777216;
+
 #[derive(Drop)]
 pub(crate) struct Options {
     pub(crate) form: Form,
@@ -56,114 +77,65 @@ pub(crate) enum Command {
     Inspect(Options),
 }
 
-// What the next word is.
-#[derive(Clone, Copy)]
-enum Expected {
-    Word,
-    Reading,
-    MessageHold,
-    BodyHold,
+pub(crate) fn parse(mut words: Args) -> Result<Command> {
+    // the first word is the program's name
+    words.next();
+    let Some(command) = words.next() else {
+        bail!("no command; write 'fegzund inspect FILE', or 'fegzund help' for all of it");
+    };
+    match command.as_str() {
+        "help" | "--help" | "-h" => Ok(Command::Help),
+        "inspect" => inspect_words(words),
+        other => bail!("no command '{other}'; write 'fegzund help' for those there are"),
+    }
 }
 
-pub(crate) fn parse(heap: Global, words: &[String]) -> anyhow::Result<Command> {
-    let Some(word) = words.get(1) else {
-        return Err(anyhow!(
-            "no command; write 'fegzund inspect FILE', or 'fegzund help' for all of it"
-        ));
-    };
-    match word.as_str() {
-        "help" | "--help" | "-h" => Ok(Command::Help),
-        "inspect" => inspect_words(heap, words),
-        other => {
-            Err(anyhow!(format!(in heap;
-                "no command '{other}'; write 'fegzund help' for those there are"
-            )?))
+fn inspect_words(mut words: Args) -> Result<Command> {
+    let mut form = Form::FlatBuffers;
+    let mut metadata = LONGEST_METADATA;
+    let mut body = LONGEST_BODY;
+    let mut file = None;
+    while let Some(word) = words.next() {
+        match word.as_str() {
+            "--help" => return Ok(Command::Help),
+            "--reading" => form = value(&mut words)?.as_str().parse()?,
+            "--message-hold" => {
+                metadata = length("--message-hold", &value(&mut words)?, 1, LONGEST_METADATA)?;
+            }
+            "--body-hold" => body = length("--body-hold", &value(&mut words)?, 0, LONGEST_BODY)?,
+            option if option.len() > 1 && option.starts_with("-") => {
+                bail!("no option '{option}'; write 'fegzund help' for those there are");
+            }
+            other if file.is_some() => bail!("one file at a time; leave out '{other}'"),
+            // an empty word names no file
+            "" => {}
+            _ => file = Some(word),
         }
     }
-}
-
-fn inspect_words(heap: Global, words: &[String]) -> anyhow::Result<Command> {
-    let mut options = Options {
-        form: Form::FlatBuffers,
-        metadata: 1048576,
-        body: 16777216,
-        file: String::new(heap),
+    let Some(file) = file else {
+        bail!("no file; write 'fegzund inspect FILE', or - for standard input");
     };
-    let mut expected = Expected::Word;
-    for word in words.iter().skip(2) {
-        expected = match expected {
-            Expected::Word => match word.as_str() {
-                "--help" => return Ok(Command::Help),
-                "--reading" => Expected::Reading,
-                "--message-hold" => Expected::MessageHold,
-                "--body-hold" => Expected::BodyHold,
-                word => {
-                    file_word(heap, &mut options, word)?;
-                    Expected::Word
-                }
-            },
-            Expected::Reading => {
-                options.form = reading_form(heap, word.as_str())?;
-                Expected::Word
-            }
-            Expected::MessageHold => {
-                options.metadata = length(heap, "--message-hold", word.as_str(), 1, 1048576)?;
-                Expected::Word
-            }
-            Expected::BodyHold => {
-                options.body = length(heap, "--body-hold", word.as_str(), 0, 16777216)?;
-                Expected::Word
-            }
-        };
-    }
-    match expected {
-        Expected::Word => checked(options),
-        _ => Err(anyhow!("an option lacks its value; write 'fegzund help' for the options")),
+    Ok(Command::Inspect(Options {
+        form,
+        metadata,
+        body,
+        file,
+    }))
+}
+
+// The word behind an option.
+fn value(words: &mut Args) -> Result<String>
+    ensures { length (into_iter_items words.new) ≤ length (into_iter_items words.old) }
+{
+    match words.next() {
+        Some(word) => Ok(word),
+        None => bail!("an option lacks its value; write 'fegzund help' for the options"),
     }
 }
 
-fn checked(options: Options) -> anyhow::Result<Command> {
-    if options.file.is_empty() {
-        return Err(anyhow!("no file; write 'fegzund inspect FILE', or - for standard input"));
-    }
-    Ok(Command::Inspect(options))
-}
-
-// A word that is no option is the file, of which there is one.
-fn file_word(heap: Global, options: &mut Options, word: &str) -> anyhow::Result<()> {
-    if word.len() > 1 && word.starts_with("-") {
-        return Err(anyhow!(format!(in heap;
-            "no option '{word}'; write 'fegzund help' for those there are"
-        )?));
-    }
-    if !options.file.is_empty() {
-        return Err(anyhow!(format!(in heap; "one file at a time; leave out '{word}'")?));
-    }
-    options.file.push_str(word)?;
-    Ok(())
-}
-
-fn reading_form(heap: Global, word: &str) -> anyhow::Result<Form> {
-    match word {
-        "flatbuffers" => Ok(Form::FlatBuffers),
-        "slip" => Ok(Form::Slip),
-        _ => Err(anyhow!(format!(in heap;
-            "--reading takes 'flatbuffers' or 'slip', not '{word}'"
-        )?)),
-    }
-}
-
-fn length(
-    heap: Global,
-    option: &str,
-    word: &str,
-    low: usize,
-    high: usize,
-) -> anyhow::Result<usize> {
-    match word.parse::<usize>() {
-        Ok(n) if n >= low && n <= high => Ok(n),
-        _ => Err(anyhow!(format!(in heap;
-            "{option} takes a number from {low} to {high}, not '{word}'"
-        )?)),
+fn length(option: &str, word: &str, least: usize, most: usize) -> Result<usize> {
+    match word.parse() {
+        Ok(n) if least <= n && n <= most => Ok(n),
+        Ok(_) | Err(_) => bail!("{option} takes a number from {least} to {most}, not '{word}'"),
     }
 }

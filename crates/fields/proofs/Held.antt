@@ -3,8 +3,7 @@ use Rattle.std.proofs.Common.{◌≡◌, ℕ, ◌^◌, ◌<◌, ◌≤◌, List,
 use Rattle.std.proofs.lemmas.List.{nil_from_length}
 use Rattle.std.proofs.lemmas.Bool.{cases_lt}
 use Rattle.std.specs.Option.{SomeIff}
-use Rattle.little.specs.Numbers.{le, number_in, number_at, number_inside}
-use Rattle.little.proofs.Spelled.{number_outside}
+use Rattle.little.specs.Numbers.{le, number_in, number_at, number_inside, number_outside}
 
 byte_past : (bs : List ℕ) (p : ℕ) → length bs ≤ p → 0 ≡ number_in 1 bs p
 unfolding number_in

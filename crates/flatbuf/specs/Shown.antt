@@ -4,7 +4,7 @@ use Rattle.flatbuf.specs.declared.batches.DictionaryBatch.{DictionaryBatch}
 use Rattle.flatbuf.specs.Flat.{Dictionary, Parts}
 
 abbrev pub parts_in : Batch → Parts
-parts_in b = record { long = b.long; compressed = b.compressed; missing = b.missing; nodes = b.nodes.now; buffers = b.buffers.now; counts = b.counts.now }
+parts_in b = record { long = b.long; compressed = b.compressed; missing = b.missing; nodes = b.nodes.bytes.now; buffers = b.buffers.bytes.now; counts = b.counts.bytes.now }
 
 abbrev pub dictionary_in : DictionaryBatch → Dictionary
 dictionary_in d = record { id = d.id; delta = d.delta; parts = parts_in d.data }

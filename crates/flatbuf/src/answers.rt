@@ -8,15 +8,12 @@ ghost use Rattle.flatbuf.specs.Asked.{or_none, told_by};
 ghost use Rattle.flatbuf.specs.Flat.{columns_in, contents_at, flat_meaning};
 ghost use Rattle.flatbuf.specs.Shown.{parts_in};
 
-use crate::batches::{
-    BUFFER_SIZE, Batch, COUNT_SIZE, NODE_SIZE, batch_at, dictionary_at, no_batch,
-};
+use crate::batches::{Batch, batch_at, dictionary_at, no_batch};
 use crate::heads::{HeaderTable, head_at};
 use crate::schemas::schema_at;
 use fields::Rows;
 use message::{BatchFacts, Facts, Header};
 
-#[tactic(auto, using(message::proofs::Listed::length_listed))]
 fn batch_facts(batch: Batch) -> BatchFacts
     ensures { result ≡ batch_facts (columns_in (parts_in batch.entry)) }
 {
@@ -24,9 +21,9 @@ fn batch_facts(batch: Batch) -> BatchFacts
         length: batch.long,
         compressed: batch.compressed,
         missing: batch.missing,
-        nodes: batch.nodes.len() / usize::from(NODE_SIZE),
-        buffers: batch.buffers.len() / usize::from(BUFFER_SIZE),
-        counts: batch.counts.len() / usize::from(COUNT_SIZE),
+        nodes: batch.nodes.len(),
+        buffers: batch.buffers.len(),
+        counts: batch.counts.len(),
     }
 }
 
@@ -83,9 +80,9 @@ pub(crate) fn rows_of(bytes: &[u8]) -> Option<Rows>
 // The batch of a record batch or a dictionary, and of any other message one with no lists.
 #[tactic(auto, unfolding(crate::specs::Flat::contents_at, crate::specs::Flat::flat_meaning, message::specs::Listed::listed))]
 pub(crate) fn batch_of(bytes: &[u8]) -> Batch<'_>
-    ensures nodes { nodes_in result.nodes.now ≡ nodes_of (flat_meaning bytes.now) }
-    ensures buffers { buffers_in result.buffers.now ≡ buffers_of (flat_meaning bytes.now) }
-    ensures counts { counts_in result.counts.now ≡ counts_of (flat_meaning bytes.now) }
+    ensures nodes { nodes_in result.nodes.bytes.now ≡ nodes_of (flat_meaning bytes.now) }
+    ensures buffers { buffers_in result.buffers.bytes.now ≡ buffers_of (flat_meaning bytes.now) }
+    ensures counts { counts_in result.counts.bytes.now ≡ counts_of (flat_meaning bytes.now) }
 {
     let Some(head) = head_at(bytes) else {
         return no_batch();

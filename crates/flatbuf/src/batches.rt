@@ -3,29 +3,23 @@ ghost use Rattle.std.specs.Prelude.{◌≡◌, pos, false};
 ghost use Rattle.std.specs.Option.{option_map};
 ghost use Rattle.flatbuf.specs.Flat.{batch_at, data_at, dictionary_at, parts_of, vector_of};
 ghost use Rattle.flatbuf.specs.Shown.{dictionary_in, parts_in};
-ghost use Rattle.message.specs.Shown.{shown_part};
 
+use little::Little;
+use message::{Buffer, Items, Node};
 use tables::{TableIn, vector};
 
-// How many bytes an item of each list has.
-pub(crate) const NODE_SIZE: u8 = 16;
-
-pub(crate) const BUFFER_SIZE: u8 = 16;
-
-pub(crate) const COUNT_SIZE: u8 = 8;
-
 // A batch: its length, its marks, and the parts of the bytes that its lists fill.
-#[derive(Clone, Copy, Debug, PartialEq, Eq)]
+#[derive(Clone, Copy)]
 pub(crate) struct Batch<'a> {
     pub(crate) long: i64,
     pub(crate) compressed: bool,
     pub(crate) missing: bool,
-    pub(crate) nodes: &'a [u8],
-    pub(crate) buffers: &'a [u8],
-    pub(crate) counts: &'a [u8],
+    pub(crate) nodes: Items<'a, Node>,
+    pub(crate) buffers: Items<'a, Buffer>,
+    pub(crate) counts: Items<'a, i64>,
 }
 
-#[derive(Clone, Copy, Debug, PartialEq, Eq)]
+#[derive(Clone, Copy)]
 pub(crate) struct DictionaryBatch<'a> {
     pub(crate) id: i64,
     pub(crate) delta: bool,
@@ -41,31 +35,31 @@ pub(crate) fn no_batch() -> Batch<'static>
 
 // The items of the vector in a slot, where the field is there.
 #[tactic(auto, unfolding(crate::specs::Flat::vector_of))]
-fn vector_of<'a>(table: TableIn<'a>, slot: u8, width: u8) -> Option<Option<&'a [u8]>>
-    ensures { option_map shown_part result ≡ vector_of width table.entry.bytes.now table.entry.table slot }
+fn vector_of<'a, T: Little>(table: TableIn<'a>, slot: u8) -> Option<Option<Items<'a, T>>>
+    ensures { option_map (option_map (λ i. i.bytes.now)) result ≡ vector_of T.WIDTH table.entry.bytes.now table.entry.table slot }
 {
     match table.target(slot)? {
         None => Some(None),
-        Some(at) => vector(table.bytes, at, width).map(Some),
+        Some(at) => vector(table.bytes, at, T::WIDTH).map(|bytes| Some(Items::new(bytes))),
     }
 }
 
 fn parts_of<'a>(
     long: i64,
-    nodes: Option<&'a [u8]>,
-    buffers: Option<&'a [u8]>,
+    nodes: Option<Items<'a, Node>>,
+    buffers: Option<Items<'a, Buffer>>,
     compressed: bool,
-    counts: Option<&'a [u8]>,
+    counts: Option<Items<'a, i64>>,
 ) -> Batch<'a>
-    ensures { parts_in result ≡ parts_of long (shown_part nodes.entry) (shown_part buffers.entry) compressed (shown_part counts.entry) }
+    ensures { parts_in result ≡ parts_of long (option_map (λ i. i.bytes.now) nodes.entry) (option_map (λ i. i.bytes.now) buffers.entry) compressed (option_map (λ i. i.bytes.now) counts.entry) }
 {
     Batch {
         long,
         compressed,
         missing: nodes.is_none() || buffers.is_none(),
-        nodes: nodes.unwrap_or(&[]),
-        buffers: buffers.unwrap_or(&[]),
-        counts: counts.unwrap_or(&[]),
+        nodes: nodes.unwrap_or_default(),
+        buffers: buffers.unwrap_or_default(),
+        counts: counts.unwrap_or_default(),
     }
 }
 
@@ -75,10 +69,10 @@ pub(crate) fn batch_at(bytes: &[u8], at: usize) -> Option<Batch<'_>>
 {
     let table = TableIn::at(bytes, at)?;
     let long = table.scalar_or(0, 0i64)?;
-    let nodes = vector_of(table, 1, NODE_SIZE)?;
-    let buffers = vector_of(table, 2, BUFFER_SIZE)?;
+    let nodes = vector_of(table, 1)?;
+    let buffers = vector_of(table, 2)?;
     let compressed = table.has(3)?;
-    let counts = vector_of(table, 4, COUNT_SIZE)?;
+    let counts = vector_of(table, 4)?;
     Some(parts_of(long, nodes, buffers, compressed, counts))
 }
 

@@ -9,8 +9,6 @@ pub mod heads;
 mod schemas;
 
 use crate::answers::{batch_of, facts_of, rows_of};
-use message::items::{buffer_in, count_in, node_in};
-use message::lists::{Buffers, Counts, Nodes};
 use message::{Buffer, Facts, ItemList, ListSizes, Node, Reading, Refused, Row};
 
 /// The reading of FlatBuffers.
@@ -36,33 +34,15 @@ impl Reading for FlatBuffers {
     }
 
     fn node(&self, bytes: &[u8], k: usize) -> Option<Node> {
-        let batch = batch_of(bytes);
-        node_in(batch.nodes, k)
+        batch_of(bytes).nodes.get(k)
     }
 
     fn buffer(&self, bytes: &[u8], k: usize) -> Option<Buffer> {
-        let batch = batch_of(bytes);
-        buffer_in(batch.buffers, k)
+        batch_of(bytes).buffers.get(k)
     }
 
     fn count(&self, bytes: &[u8], k: usize) -> Option<i64> {
-        let batch = batch_of(bytes);
-        count_in(batch.counts, k)
-    }
-
-    fn nodes(&self, bytes: &[u8], table: &mut [Node]) -> usize {
-        let batch = batch_of(bytes);
-        Nodes(batch.nodes).copy_to(table)
-    }
-
-    fn buffers(&self, bytes: &[u8], table: &mut [Buffer]) -> usize {
-        let batch = batch_of(bytes);
-        Buffers(batch.buffers).copy_to(table)
-    }
-
-    fn counts(&self, bytes: &[u8], table: &mut [i64]) -> usize {
-        let batch = batch_of(bytes);
-        Counts(batch.counts).copy_to(table)
+        batch_of(bytes).counts.get(k)
     }
 
     // The batch is looked for once.
@@ -75,9 +55,9 @@ impl Reading for FlatBuffers {
     ) -> ListSizes {
         let batch = batch_of(bytes);
         ListSizes {
-            nodes: Nodes(batch.nodes).copy_to(nodes),
-            buffers: Buffers(batch.buffers).copy_to(buffers),
-            counts: Counts(batch.counts).copy_to(counts),
+            nodes: batch.nodes.copy_to(nodes),
+            buffers: batch.buffers.copy_to(buffers),
+            counts: batch.counts.copy_to(counts),
         }
     }
 }

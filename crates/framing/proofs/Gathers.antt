@@ -29,7 +29,7 @@ module _ {S B F : Type 0} (step : S → ℕ → Moved S B F) (state : List ℕ �
       ap (went_on xs (λ t. goes step t xs)) first ∙ rest ∙ ap (λ l. quiet (state l)) a
 
   -- with the byte that may fill it
-  all : (ys got : List ℕ) (l : Last ys) → More (got ++ l.front) → Acts step (state got) ys (comes (got ++ ys))
+  pub all : (ys got : List ℕ) (l : Last ys) → More (got ++ l.front) → Acts step (state got) ys (comes (got ++ ys))
   unfolding goes
   all ys got l h =
       let last : step (state (got ++ l.front)) l.byte ≡ comes (got ++ ys) = each (got ++ l.front) l.byte ∙ ap comes (append_assoc got l.front (l.byte ∷ []) ∙ ap (λ t. got ++ t) (sym l.is)) in

@@ -1,90 +1,85 @@
 -- The parts of a decoder, way by way.
-use Rattle.std.proofs.Common.{◌≡◌, ℕ, ◌+◌, ◌-◌, ◌≤◌, Bool, cond, leb, List, [], length, take, ℤ, pos, negsuc, Some, None, Ok, Option, Result, sym, refl, ap, ◌∙◌, subst, inl, inr, arith}
+use Rattle.std.proofs.Common.{◌≡◌, ℕ, ◌+◌, ◌-◌, ◌<◌, ◌≤◌, cond, leb, List, [], length, take, ℤ, pos, negsuc, Some, None, Ok, Option, Result, sym, refl, ap, ◌∙◌, subst, inl, inr, arith}
 use Rattle.std.proofs.lemmas.List.{length-take-le}
 use Rattle.std.proofs.lemmas.Bool.{cases_lt, le-leb, lt-leb, cond-true, cond-false}
-use Rattle.little.specs.Numbers.{number_at}
-use Rattle.little.proofs.Spelled.{number_inside, number_outside}
+use Rattle.std.specs.Option.{option_map}
+use Rattle.little.specs.Numbers.{number_inside, number_outside}
 use Rattle.message.specs.declared.faults.Fault.{Fault}
 use Rattle.message.specs.declared.faults.Place.{Place}
-use Rattle.message.specs.declared.headers.Facts.{Facts}
 use Rattle.framing.specs.declared.events.Event.{Event}
 use Rattle.framing.specs.declared.events.Event.TheVariants.{Frame as FrameEvent, End as EndEvent}
+use Rattle.framing.specs.declared.events.FrameHead.{FrameHead}
+use Rattle.framing.specs.declared.openings.Opening.{Opening}
+use Rattle.framing.specs.declared.openings.OpeningBytes.{OpeningBytes}
 use Rattle.framing.specs.declared.state.DecoderState.TheVariants.{Header, Finished}
 use Rattle.framing.specs.declared.state.FrameDecoder.{FrameDecoder}
-use Rattle.framing.specs.Moves.{on, shows}
+use Rattle.framing.specs.Moves.{shows}
 use Rattle.framing.specs.Frames.{Holds, Envelope, frame, end, behind, marks, opening, size_of, body_length, at_most, length_of}
 use Rattle.framing.specs.Steps.{header, ended, sized, opened, filled, told, bodied, gathered}
 use Rattle.framing.specs.Views.{stand_of, holds_of}
 use Rattle.framing.specs.Turns.{opening_in, Kept, Moves, Sized, Opened, Filled, Gathered}
-use Rattle.framing.proofs.Fills.{Opening, opening_bounds, opening_some, opening_whole}
+use Rattle.framing.proofs.Fills.{Begun, opening_bounds, opening_whole}
 use Rattle.framing.proofs.Ways.{sized_end, gathered_all, filled_all, framed}
 use Rattle.framing.proofs.Stands.{stand_at}
 
 -- the end mark
-pub at_end : (d d' : FrameDecoder) (marked : Bool) (n : ℕ) → n ≡ 0 → Kept d d' → d'.state ≡ Finished → d'.place ≡ behind d.place (opening marked) → Sized marked n d (Ok (Some (EndEvent d.place))) d'
-at_end d d' marked n z kept is place m b = record {
-  by = (end d.place, sized_end (holds_of d) d.place marked n z ∙ ap (λ p. shows (end d.place) (ended p)) (sym place) ∙ ap (shows (end d.place)) (sym (stand_at d' m b Finished is)), refl, tt);
+pub at_end : (d d' : FrameDecoder) (o : Opening) → o.size ≡ 0 → Kept d d' → d'.state ≡ Finished → d'.place ≡ behind d.place (opening o.marked) → Sized o d (Ok (Some (EndEvent d.place))) d'
+at_end d d' o z kept is place m b = record {
+  by = (end d.place, sized_end (holds_of d) d.place o.marked o.size z ∙ ap (λ p. shows (end d.place) (ended p)) (sym place) ∙ ap (shows (end d.place)) (sym (stand_at d' m b Finished is)), refl, tt);
   kept = kept;
 }
 
 -- an opening by what is found in its bytes
-module _ (bs : List ℕ) (marked : Bool) (number : Option ℕ) (is : (marked, number) ≡ opening_in bs) where
-  found : number ≡ number_at 4 bs (opening (marks bs) - 4)
-  found = ap (λ p. p.1) is
+module _ (bs : List ℕ) where
+  with_size : ℕ → Opening
+  with_size n = record { marked = marks bs; size = n }
 
-  pub not_whole : number ≡ None → Opening bs
-  not_whole none =
+  found : opening (marks bs) ≤ length bs → opening_in bs ≡ Some (with_size (size_of bs))
+  unfolding with_size
+  found k =
       let b = opening_bounds (marks bs) in
-      record {
-        more = elim (cases_lt (length bs) (opening (marks bs))) [
-          | inl k ↦ k
-          | inr k ↦
-              let e = number_inside 4 bs (opening (marks bs) - 4) (omega (arith, b.0)) in
-              let f = found in
-              let z : ◌≡◌ {A = ℕ} 0 1 = cc in
-              absurd (omega arith)
-        ];
-      }
+      ap (option_map with_size) (number_inside 4 bs (opening (marks bs) - 4) (omega (arith, b.0)))
 
-  pub whole : (h : Holds) (p : Place) (n : ℕ) → number ≡ Some n → opened h p bs ≡ sized h p marked n
-  whole h p n some =
+  not_found : length bs < opening (marks bs) → opening_in bs ≡ None
+  unfolding with_size
+  not_found k =
       let b = opening_bounds (marks bs) in
-      let f = found in
-      let m : marked ≡ marks bs = ap (λ p. p.0) is in
-      elim (cases_lt (length bs) (opening (marks bs))) [
-        | inl k ↦
-            let e = number_outside 4 bs (opening (marks bs) - 4) (omega (arith, b.0)) in
-            let z : ◌≡◌ {A = ℕ} 0 1 = cc in
-            absurd (omega arith)
-        | inr k ↦
-            let e = number_inside 4 bs (opening (marks bs) - 4) (omega (arith, b.0)) in
-            let s : n ≡ size_of bs = cc in
-            opening_whole h p bs k ∙ ap (λ t. sized h p t (size_of bs)) (sym m) ∙ ap (sized h p marked) (sym s)
-      ]
+      ap (option_map with_size) (number_outside 4 bs (opening (marks bs) - 4) (omega (arith, b.0)))
 
-pub opening_more : (d d' : FrameDecoder) (bytes bs : List ℕ) (got : ℕ) → take got bytes ≡ bs → Opening (take got bytes) → Kept d d' → d'.state ≡ Header bytes got → d'.place ≡ d.place → Opened bs d (Ok None) d'
-opening_more d d' bytes bs got at more kept is place m b = record {
-  by = ap (opened (holds_of d) d.place) (sym at) ∙ opening_some (holds_of d) d.place (take got bytes) more ∙ ap (λ p. on (header p (take got bytes))) (sym place) ∙ ap on (sym (stand_at d' m b (Header bytes got) is));
-  kept = kept;
-}
+  pub not_whole : opening_in bs ≡ None → Begun bs
+  not_whole none = elim (cases_lt (length bs) (opening (marks bs))) [
+    | inl k ↦ record { more = k }
+    | inr k ↦ let e = found k in cc
+  ]
 
-pub opening_sized : (d d' : FrameDecoder) (got bs : List ℕ) (marked : Bool) (n : ℕ) (r : Result (Option Event) Fault) → got ≡ bs → opened (holds_of d) d.place got ≡ sized (holds_of d) d.place marked n → Sized marked n d r d' → Opened bs d r d'
-opening_sized d d' got bs marked n r at e s m b = subst (λ v. Moves v d r d' m b) (sym e ∙ ap (opened (holds_of d) d.place) at) (s m b)
+  pub whole : (h : Holds) (p : Place) (o : Opening) → opening_in bs ≡ Some o → opened h p bs ≡ sized h p o.marked o.size
+  unfolding with_size
+  whole h p o some = elim (cases_lt (length bs) (opening (marks bs))) [
+    | inl k ↦ let e = not_found k in cc
+    | inr k ↦
+        let e = found k in
+        let s : with_size (size_of bs) ≡ o = cc in
+        opening_whole h p bs k ∙ ap (λ q. sized h p q.marked q.size) s
+  ]
+
+pub opening_sized : (d d' : FrameDecoder) (bs : List ℕ) (o : Opening) (r : Result (Option Event) Fault) → opening_in bs ≡ Some o → Sized o d r d' → Opened bs d r d'
+opening_sized d d' bs o r e s m b = subst (λ v. Moves v d r d' m b) (sym (whole bs (holds_of d) d.place o e)) (s m b)
 
 -- a body that is whole
-pub frame_whole : (d d' : FrameDecoder) (marked : Bool) (size : ℕ) (facts : Facts) (n got : ℕ) → got ≡ n → Kept d d' → (bytes : List ℕ) → d'.state ≡ Header bytes 0 → d'.place ≡ behind d.place (opening marked + (size + n)) → Filled marked size facts n got d (Some (FrameEvent (record { place = d.place; marked = marked; size = size; body = n; facts = facts }))) d'
-frame_whole d d' marked size facts n got full kept bytes is place m b fits within =
-    let p = d.place in
-    let f = framed p marked (take size m) facts n (take got b) in
-    let l : length (take size m) ≡ size = length-take-le size m fits in
-    let k : length (take got b) ≡ n = length-take-le got b (omega arith) ∙ full in
-    let all : opening marked + (size + n) ≡ length_of f = omega arith in
-    let to : header (behind p (length_of f)) [] ≡ stand_of d' m b = ap (λ j. header (behind p j) []) (sym all) ∙ ap (λ q. header q []) (sym place) ∙ sym (stand_at d' m b (Header bytes 0) is) in
+pub frame_whole : (d d' : FrameDecoder) (head : FrameHead) (got : ℕ) → got ≡ head.body → Kept d d' → (s : OpeningBytes) → s.got ≡ 0 → d'.state ≡ Header s → d'.place ≡ behind head.place (opening head.opening.marked + (head.opening.size + head.body)) → Filled head got d (Some (FrameEvent head)) d'
+frame_whole d d' head got full kept s none is place m b fits within =
+    let p = head.place in
+    let o = head.opening in
+    let f = framed p o.marked (take o.size m) head.facts head.body (take got b) in
+    let l : length (take o.size m) ≡ o.size = length-take-le o.size m fits in
+    let k : length (take got b) ≡ head.body = length-take-le got b (omega arith) ∙ full in
+    let all : opening o.marked + (o.size + head.body) ≡ length_of f = omega arith in
+    let to : header (behind p (length_of f)) [] ≡ stand_of d' m b = ap (λ j. header (behind p j) []) (sym all) ∙ ap (λ q. header q []) (sym place) ∙ ap (λ j. header d'.place (take j s.bytes)) (sym none) ∙ sym (stand_at d' m b (Header s) is) in
     record {
       by = (
         frame f,
-        filled_all p marked (take size m) facts n (take got b) k ∙ ap (shows (frame f)) to,
-        ap (λ j. FrameEvent (record { place = p; marked = marked; size = j; body = n; facts = facts })) (sym l) ∙ ap (λ j. FrameEvent (record { place = p; marked = marked; size = length (take size m); body = j; facts = facts })) (sym k),
+        filled_all p o.marked (take o.size m) head.facts head.body (take got b) k ∙ ap (shows (frame f)) to,
+        ap (λ j. FrameEvent (record { place = p; opening = record { marked = o.marked; size = j }; facts = head.facts; body = head.body })) (sym l) ∙ ap (λ j. FrameEvent (record { place = p; opening = record { marked = o.marked; size = length (take o.size m) }; facts = head.facts; body = j })) (sym k),
         (ap (λ j. take j m) l, ap (λ j. take j b) (k ∙ sym full)),
       );
       kept = kept;
@@ -93,17 +88,20 @@ frame_whole d d' marked size facts n got full kept bytes is place m b fits withi
 -- metadata that are whole, with a body to come
 at_most_lem : (most n : ℕ) (z : ℤ) → at_most most z ≡ Some n → n ≤ most
 at_most_lem most n (pos k) e = elim (cases_lt most k) [
-  | inl l ↦ let c : cond (leb k most) (Some k) None ≡ None = cond-false (leb k most) (Some k) None (lt-leb k most l) in let z : ◌≡◌ {A = ℕ} 0 1 = cc in absurd (omega arith)
+  | inl l ↦ let c : cond (leb k most) (Some k) None ≡ None = cond-false (leb k most) (Some k) None (lt-leb k most l) in cc
   | inr l ↦ let c : cond (leb k most) (Some k) None ≡ Some k = cond-true (leb k most) (Some k) None (le-leb k most l) in let d : n ≡ k = cc in omega arith
 ]
-at_most_lem most n (negsuc k) e = let z : ◌≡◌ {A = ℕ} 0 1 = cc in absurd (omega arith)
+at_most_lem most n (negsuc k) e = cc
 
-pub metadata_whole : (e : Envelope) (d d' : FrameDecoder) (m : List ℕ) (marked : Bool) (size got : ℕ) (facts : Facts) (n : ℕ) (o : Option Event) → length m ≡ d.metadata → size ≤ d.metadata → got ≡ size → e (take size m) ≡ Ok facts → body_length (holds_of d) facts ≡ Some n → Filled marked size facts n 0 d o d' → Gathered e m marked size got d (Ok o) d'
-metadata_whole e d d' m marked size got facts n o own fits full told-ok some moved b long =
+pub metadata_whole : (e : Envelope) (d d' : FrameDecoder) (m : List ℕ) (head : FrameHead) (got : ℕ) (o : Option Event) → length m ≡ d.metadata → head.opening.size ≤ d.metadata → got ≡ head.opening.size → head.place ≡ d.place → e (take got m) ≡ Ok head.facts → body_length (holds_of d) head.facts ≡ Some head.body → Filled head 0 d o d' → Gathered e m head.opening got d (Ok o) d'
+metadata_whole e d d' m head got o own fits full here told-ok some moved b long =
     let h = holds_of d in
     let p = d.place in
+    let marked = head.opening.marked in
+    let size = head.opening.size in
     let l : length (take got m) ≡ size = length-take-le got m (omega arith) ∙ full in
-    let k = at_most_lem d.body n facts.body some in
-    let v : gathered h e p marked size (take got m) ≡ filled p marked (take size m) facts n [] =
-    gathered_all h e p marked size (take got m) l ∙ ap (λ j. told h p marked (take j m) (e (take j m))) full ∙ ap (told h p marked (take size m)) told-ok ∙ ap (bodied p marked (take size m) facts) some in
+    let k = at_most_lem d.body head.body head.facts.body some in
+    let v : gathered h e p marked size (take got m) ≡ filled head.place marked (take size m) head.facts head.body [] =
+    gathered_all h e p marked size (take got m) l ∙ ap (told h p marked (take got m)) told-ok ∙ ap (bodied p marked (take got m) head.facts) some
+    ∙ ap (λ j. filled p marked (take j m) head.facts head.body []) full ∙ ap (λ q. filled q marked (take size m) head.facts head.body []) (sym here) in
     subst (λ w. Moves w d (Ok o) d' m b) (sym v) (moved m b (omega arith) (omega arith))

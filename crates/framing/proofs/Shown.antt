@@ -136,7 +136,7 @@ module _ (h : Holds) (e : Envelope) where
   left_of (metadata q marked n got) p x t rest d = let k = rest_of (step h e) p (metadata q marked n got) x t rest d in (k.0 ∷ k.1, k.2)
   left_of (body q marked meta facts n got) p x t rest d = let k = rest_of (step h e) p (body q marked meta facts n got) x t rest d in (k.0 ∷ k.1, k.2)
   left_of (ended q) p x t rest d = let k = rest_of (step h e) p (ended q) x t rest d in (k.0 ∷ k.1, k.2)
-  left_of (stopped f) p x t rest d = let z : ◌≡◌ {A = ℕ} 0 1 = cc in absurd (omega arith)
+  left_of (stopped f) p x t rest d = cc
 
 -- an event with the bytes of the holds is what the stream shows
 seen_is : (x : Shown) (m b : List ℕ) → InHolds x m b → seen m b (event_of x) ≡ x
@@ -204,11 +204,11 @@ module _ (h : Holds) (e : Envelope) where
         stopped = shown.stopped;
         other = shown.other;
       })
-  piece_ok cs ih s p later left t m b (refused f s') is a held cut run gets = let z : ◌≡◌ {A = ℕ} 0 1 = cc in absurd (omega arith)
+  piece_ok cs ih s p later left t m b (refused f s') is a held cut run gets = cc
 
   piece_err : (cs : List Call) (s : Stand) (p later left : List ℕ) (x : Fault) (m b : List ℕ) (w : Went Stand Shown Fault) → advanced h e s p ≡ w → Err x ≡ answered p w → left ≡ p ++ later → Follows h e (standing w) cs → Shows (stream_of (whole (step h e) s left)) left (advances p (Err x) m b ∷ cs)
-  piece_err cs s p later left x m b (quiet s') is a cut run = let z : ◌≡◌ {A = ℕ} 0 1 = cc in absurd (omega arith)
-  piece_err cs s p later left x m b (showed y s' rest) is a cut run = let z : ◌≡◌ {A = ℕ} 0 1 = cc in absurd (omega arith)
+  piece_err cs s p later left x m b (quiet s') is a cut run = cc
+  piece_err cs s p later left x m b (showed y s' rest) is a cut run = cc
   piece_err cs s p later left x m b (refused f s') is a cut run =
       let d : x ≡ f = cc in
       let stop : s' ≡ stopped f = subst StopsAt is (advanced_stops h e s p) in

@@ -20,7 +20,7 @@ advanced h e (ended p) piece = goes (step h e) (ended p) piece
 advanced h e (stopped f) piece = refused f (stopped f)
 
 abbrev pub event_of : Shown → Event
-event_of (frame f) = FrameEvent (record { place = f.place; marked = f.marked; size = length f.metadata; body = length f.body; facts = f.facts })
+event_of (frame f) = FrameEvent (record { place = f.place; opening = record { marked = f.marked; size = length f.metadata }; facts = f.facts; body = length f.body })
 event_of (end p) = EndEvent p
 
 abbrev pub answered : List ℕ → Went Stand Shown Fault → Result Step Fault

@@ -39,7 +39,7 @@ Gets left (ends_at r ∷ cs) = Gets left cs
 
 -- an event, with the bytes that the two holds have then
 abbrev pub seen : List ℕ → List ℕ → Event → Shown
-seen m b (FrameEvent h) = frame (record { place = h.place; marked = h.marked; metadata = take h.size m; facts = h.facts; body = take h.body b })
+seen m b (FrameEvent h) = frame (record { place = h.place; marked = h.opening.marked; metadata = take h.opening.size m; facts = h.facts; body = take h.body b })
 seen m b (EndEvent p) = end p
 
 -- what the calls showed, up to the first piece that is refused

@@ -1,12 +1,14 @@
 -- What the parts of a decoder do: an opening, metadata, a body, one turn.
-use Rattle.std.specs.Prelude.{◌≡◌, ℕ, ◌+◌, ◌-◌, ◌<◌, ◌≤◌, min, Bool, List, [], ◌++◌, length, take, drop, Some, None, Ok, Err, Option, Result}
+use Rattle.std.specs.Prelude.{◌≡◌, ℕ, ◌+◌, ◌-◌, ◌<◌, ◌≤◌, min, List, [], ◌++◌, length, take, drop, Some, None, Ok, Err, Option, Result}
+use Rattle.std.specs.Option.{option_map}
 use Rattle.little.specs.Numbers.{number_at}
 use Rattle.message.specs.declared.faults.Fault.{Fault}
 use Rattle.message.specs.declared.faults.Refusal.{Refusal}
-use Rattle.message.specs.declared.headers.Facts.{Facts}
 use Rattle.message.specs.Faults.{placed}
 use Rattle.framing.specs.declared.events.Event.{Event}
+use Rattle.framing.specs.declared.events.FrameHead.{FrameHead}
 use Rattle.framing.specs.declared.events.Step.{Step}
+use Rattle.framing.specs.declared.openings.Opening.{Opening}
 use Rattle.framing.specs.declared.state.DecoderState.TheVariants.{Stopped}
 use Rattle.framing.specs.declared.state.FrameDecoder.{FrameDecoder}
 use Rattle.framing.specs.Moves.{on, shows, refuses, quiet, showed, refused}
@@ -15,9 +17,9 @@ use Rattle.framing.specs.Steps.{Stand, Move, sized, opened, filled, gathered}
 use Rattle.framing.specs.Calls.{advanced, event_of, InHolds}
 use Rattle.framing.specs.Views.{stand_of, holds_of}
 
--- whether bytes open with the marker, and the size, where it is there whole
-abbrev pub opening_in : List ℕ → Bool × Option ℕ
-opening_in bs = (marks bs, number_at 4 bs (opening (marks bs) - 4))
+-- the opening that bytes begin with: whether it has the marker, and the size, where that is there whole
+abbrev pub opening_in : List ℕ → Option Opening
+opening_in bs = option_map (λ n. record { marked = marks bs; size = n }) (number_at 4 bs (opening (marks bs) - 4))
 
 -- bytes of the rest go into a hold, behind those that are there, until it has `most`
 pub record Fills (m : List ℕ) (got most : ℕ) (rest : List ℕ) (n : ℕ) (m' : List ℕ) : Type 0 where
@@ -49,21 +51,21 @@ pub record Moves (v : Move) (d : FrameDecoder) (r : Result (Option Event) Fault)
   pub by : MovedBy v r (stand_of d' m b) m b
   pub kept : Kept d d'
 
--- a size, and an opening, whatever the holds have
-abbrev pub Sized : Bool → ℕ → FrameDecoder → Result (Option Event) Fault → FrameDecoder → Type 0
-Sized marked n d r d' = (m b : List ℕ) → Moves (sized (holds_of d) d.place marked n) d r d' m b
+-- an opening that is whole, and its bytes, whatever the holds have
+abbrev pub Sized : Opening → FrameDecoder → Result (Option Event) Fault → FrameDecoder → Type 0
+Sized o d r d' = (m b : List ℕ) → Moves (sized (holds_of d) d.place o.marked o.size) d r d' m b
 
 abbrev pub Opened : List ℕ → FrameDecoder → Result (Option Event) Fault → FrameDecoder → Type 0
 Opened got d r d' = (m b : List ℕ) → Moves (opened (holds_of d) d.place got) d r d' m b
 
 -- the first bytes of the metadata's hold, whatever the other has
-abbrev pub Gathered : Envelope → List ℕ → Bool → ℕ → ℕ → FrameDecoder → Result (Option Event) Fault → FrameDecoder → Type 0
-Gathered e m marked n got d r d' = (b : List ℕ) → length b ≡ d.body → Moves (gathered (holds_of d) e d.place marked n (take got m)) d r d' m b
+abbrev pub Gathered : Envelope → List ℕ → Opening → ℕ → FrameDecoder → Result (Option Event) Fault → FrameDecoder → Type 0
+Gathered e m o got d r d' = (b : List ℕ) → length b ≡ d.body → Moves (gathered (holds_of d) e d.place o.marked o.size (take got m)) d r d' m b
 
 -- the first bytes of the body's hold
-abbrev pub Filled : Bool → ℕ → Facts → ℕ → ℕ → FrameDecoder → Option Event → FrameDecoder → Type 0
-Filled marked size facts n got d o d' =
-    (m b : List ℕ) → size ≤ length m → n ≤ length b → Moves (filled d.place marked (take size m) facts n (take got b)) d (Ok o) d' m b
+abbrev pub Filled : FrameHead → ℕ → FrameDecoder → Option Event → FrameDecoder → Type 0
+Filled head got d o d' =
+    (m b : List ℕ) → head.opening.size ≤ length m → head.body ≤ length b → Moves (filled head.place head.opening.marked (take head.opening.size m) head.facts head.body (take got b)) d (Ok o) d' m b
 
 -- one turn: so many bytes of the rest act, and the others go on from there
 abbrev pub TurnOn : Holds → Envelope → Stand → List ℕ → ℕ → Option Event → Stand → List ℕ → List ℕ → Type 0

@@ -15,9 +15,9 @@ use Rattle.framing.specs.Calls.{advanced, answered, standing, Held, end_at}
 
 -- the bytes gathered are the first of the opening's own bytes, of the metadata's hold and of the body's
 abbrev pub state_stand : DecoderState → Place → List ℕ → List ℕ → Stand
-state_stand (Header bytes got) p m b = header p (take got bytes)
-state_stand (Message marked size got) p m b = metadata p marked size (take got m)
-state_stand (Body marked size facts n got) p m b = body p marked (take size m) facts n (take got b)
+state_stand (Header start) p m b = header p (take start.got start.bytes)
+state_stand (Message opening got) p m b = metadata p opening.marked opening.size (take got m)
+state_stand (Body head got) p m b = body head.place head.opening.marked (take head.opening.size m) head.facts head.body (take got b)
 state_stand Finished p m b = ended p
 state_stand (Stopped f) p m b = stopped f
 

@@ -1,14 +1,15 @@
 // The calls of a decoder of frames.
-ghost use Rattle.std.specs.Prelude.{◌≡◌, ◌+◌, ◌-◌, ◌<◌, ◌≤◌, max, [], ◌∷◌, ◌++◌, length, take};
+ghost use Rattle.std.specs.Prelude.{◌≡◌, ◌≤◌, true, false, [], ◌∷◌, ◌++◌, length, take, drop, MatchOption};
 ghost use Rattle.message.specs.Messages.{facts_of};
-ghost use Rattle.framing.specs.Frames.{at_most, behind, marks, opening};
+ghost use Rattle.framing.specs.Frames.{at_most, behind, marks};
 ghost use Rattle.framing.specs.Runs.{Opens};
 ghost use Rattle.framing.specs.Turns.{opening_in, Fills, Stops, Sized, Opened, Gathered, Filled, Turns};
 ghost use Rattle.framing.specs.Views.{Own, Advances, Ends};
 
-use crate::events::{Event, FrameHead, NO_STEP, Step};
+use crate::events::{Event, FrameHead, Step};
+use crate::openings::{Opening, OpeningBytes};
 use crate::state::{DecoderState, FrameDecoder};
-use little::u32_at;
+use little::Little;
 use message::{Facts, Fault, Place, Reading, Refusal};
 
 // Where the frame behind one of `n` bytes stands.
@@ -21,35 +22,40 @@ fn behind(place: Place, n: usize) -> Place
     }
 }
 
-// How many bytes open a frame.
-fn opening(marked: bool) -> usize
-    ensures { result ≡ opening marked }
-{
-    if marked { 8 } else { 4 }
-}
-
-// Whether the bytes open with the continuation marker, and the size, if it is there.
-fn opening_in(bytes: &[u8]) -> (bool, Option<u32>)
-    ensures { result ≡ opening_in bytes.now }
+// What follows the continuation marker, where the bytes open with it.
+#[tactic(auto, using(crate::proofs::OpeningOf::short_unmarked, std::proofs::lemmas::Bool::Decides::nat_tests, std::proofs::lemmas::List::take_rest), unfolding(crate::specs::Frames::marks))]
+pub(crate) fn behind_marker(bytes: &[u8]) -> Option<&[u8]>
+    ensures { MatchOption result (marks bytes.now ≡ false) (λ rest. (4 ≤ length bytes.now) × (marks bytes.now ≡ true) × (rest.now ≡ drop 4 bytes.now)) }
 {
     match bytes {
-        [0xff, 0xff, 0xff, 0xff, rest @ ..] => (true, u32_at(rest, 0)),
-        _ => (false, u32_at(bytes, 0)),
+        [0xff, 0xff, 0xff, 0xff, rest @ ..] => Some(rest),
+        _ => None,
     }
+}
+
+// The opening that bytes begin with, where it is there whole.
+pub(crate) fn opening_in(bytes: &[u8]) -> Option<Opening>
+    ensures { result ≡ opening_in bytes.now }
+{
+    let marker = behind_marker(bytes);
+    let size = u32::read_at(marker.unwrap_or(bytes), 0)?;
+    Some(Opening {
+        marked: marker.is_some(),
+        size: size as usize,
+    })
 }
 
 // The length of the body that follows, if its hold has room for it.
 fn body_length(facts: &Facts, hold: usize) -> Option<usize>
     ensures { result ≡ at_most hold facts.now.body }
 {
-    if facts.body < 0 || facts.body as u64 > hold as u64 {
-        return None;
-    }
-    Some(facts.body as usize)
+    usize::try_from(facts.body)
+        .ok()
+        .filter(|length| *length <= hold)
 }
 
 // Bytes of the rest go into the hold, behind the `got` that are there, until it has `most`; how many they are.
-fn fill(hold: &mut [u8], got: usize, most: usize, rest: &[u8]) -> usize
+pub(crate) fn fill(hold: &mut [u8], got: usize, most: usize, rest: &[u8]) -> usize
     requires most { most ≤ length hold.old }
     requires got { got ≤ most }
     ensures { Fills hold.old got most rest.now result hold.new }
@@ -57,18 +63,6 @@ fn fill(hold: &mut [u8], got: usize, most: usize, rest: &[u8]) -> usize
     let n = (most - got).min(rest.len());
     hold[got..got + n].copy_from_slice(&rest[..n]);
     n
-}
-
-// All but the last of the bytes that are known to belong to an opening go behind the `got` that are there.
-fn fill_opening(mut bytes: [u8; 8], got: usize, rest: &[u8]) -> ([u8; 8], usize)
-    requires got { got < 8 }
-    requires some { 0 < length rest.now }
-    ensures { Fills bytes got (max (opening (marks (take got bytes))) (got + 1) - 1) (take (length rest.now - 1) rest.now) result.1 result.0 }
-{
-    let (marked, _) = opening_in(&bytes[..got]);
-    let last = opening(marked).max(got + 1) - 1;
-    let used = fill(&mut bytes, got, last, &rest[..rest.len() - 1]);
-    (bytes, used)
 }
 
 impl FrameDecoder {
@@ -82,14 +76,8 @@ impl FrameDecoder {
         Ok(FrameDecoder {
             metadata,
             body,
-            state: DecoderState::Header {
-                bytes: [0; 8],
-                got: 0,
-            },
-            place: Place {
-                message: 0,
-                position: 0,
-            },
+            state: DecoderState::Header(OpeningBytes::default()),
+            place: Place::default(),
         })
     }
 
@@ -106,13 +94,13 @@ impl FrameDecoder {
         if metadata.len() != self.metadata || body.len() != self.body {
             return Err(Refusal::Lengths.bare());
         }
-        let mut used = 0;
+        let mut rest = piece;
         loop {
-            let turn = self.turn(reading, metadata, body, &piece[used..])?;
-            used += turn.used;
-            if turn.event.is_some() || used == piece.len() {
+            let turn = self.turn(reading, metadata, body, rest)?;
+            rest = &rest[turn.used..];
+            if turn.event.is_some() || rest.is_empty() {
                 return Ok(Step {
-                    used,
+                    used: piece.len() - rest.len(),
                     event: turn.event,
                 });
             }
@@ -120,12 +108,13 @@ impl FrameDecoder {
     }
 
     // Whether the stream may stop here.
+    #[tactic(auto, using(crate::proofs::Stands::inside_opening))]
     pub fn check_end(&self) -> Result<(), Fault>
         ensures { Ends self.now result }
     {
         match self.state {
-            DecoderState::Header { got, .. } if got > 0 => Err(Refusal::Unfinished.bare()),
-            DecoderState::Header { .. } | DecoderState::Finished => Ok(()),
+            DecoderState::Header(bytes) if !bytes.is_empty() => Err(Refusal::Unfinished.bare()),
+            DecoderState::Header(_) | DecoderState::Finished => Ok(()),
             DecoderState::Message { .. } | DecoderState::Body { .. } => {
                 Err(Refusal::Unfinished.bare())
             }
@@ -142,108 +131,85 @@ impl FrameDecoder {
         fault
     }
 
-    // The size that an opening ends with: the end mark, or so many bytes of metadata.
-    fn sized(&mut self, marked: bool, size: usize) -> Result<Option<Event>, Fault>
-        ensures { Sized marked size self.old result self.new }
+    // An opening: the end mark, or metadata that follow.
+    fn sized(&mut self, opening: Opening) -> Result<Option<Event>, Fault>
+        ensures { Sized opening self.old result self.new }
     {
-        if size == 0 {
+        if opening.size == 0 {
             let place = self.place;
-            self.place = behind(place, opening(marked));
+            self.place = behind(place, opening.len());
             self.state = DecoderState::Finished;
             return Ok(Some(Event::End { place }));
         }
-        if size > self.metadata {
+        if opening.size > self.metadata {
             return Err(self.stop(Refusal::MetadataSize));
         }
-        self.state = DecoderState::Message {
-            marked,
-            size,
-            got: 0,
-        };
+        self.state = DecoderState::Message { opening, got: 0 };
         Ok(None)
     }
 
-    // The `got` bytes of an opening that are there and one more, whole or not.
-    fn opened(&mut self, mut bytes: [u8; 8], got: usize, b: u8) -> Result<Option<Event>, Fault>
-        requires { got < 8 }
-        ensures { Opened (take got bytes ++ b ∷ []) self.old result self.new }
+    // The bytes of an opening that are there and one more, whole or not.
+    fn opened(&mut self, bytes: OpeningBytes, b: u8) -> Result<Option<Event>, Fault>
+        ensures { Opened (take bytes.got bytes.bytes ++ b ∷ []) self.old result self.new }
     {
-        bytes[got] = b;
-        let got = got + 1;
-        let (marked, number) = opening_in(&bytes[..got]);
-        let Some(size) = number else {
-            self.state = DecoderState::Header { bytes, got };
-            return Ok(None);
-        };
-        self.sized(marked, size as usize)
+        match bytes.with(b) {
+            Ok(opening) => self.sized(opening),
+            Err(bytes) => {
+                self.state = DecoderState::Header(bytes);
+                Ok(None)
+            }
+        }
     }
 
-    // The first `got` bytes of a body of `length`, whole or not.
-    fn filled(
-        &mut self,
-        marked: bool,
-        size: usize,
-        facts: Facts,
-        length: usize,
-        got: usize,
-    ) -> Option<Event>
-        requires size { size ≤ self.old.metadata }
-        requires length { length ≤ self.old.body }
-        requires got { got ≤ length }
-        ensures { Filled marked size facts length got self.old result self.new }
+    // The first `got` bytes of a frame's body, whole or not. The bounds are clauses here and at `gathered`, and not facts of
+    // the head, since they compare it with this decoder's holds.
+    fn filled(&mut self, head: FrameHead, got: usize) -> Option<Event>
+        requires size { head.opening.size ≤ self.old.metadata }
+        requires length { head.body ≤ self.old.body }
+        requires got { got ≤ head.body }
+        ensures { Filled head got self.old result self.new }
     {
-        if got < length {
-            self.state = DecoderState::Body {
-                marked,
-                size,
-                facts,
-                length,
-                got,
-            };
+        if got < head.body {
+            self.state = DecoderState::Body { head, got };
             return None;
         }
-        let place = self.place;
-        self.place = behind(place, opening(marked) + (size + length));
-        self.state = DecoderState::Header {
-            bytes: [0; 8],
-            got: 0,
-        };
-        Some(Event::Frame {
-            head: FrameHead {
-                place,
-                marked,
-                size,
-                body: length,
-                facts,
-            },
-        })
+        let n = head.opening.len() + (head.opening.size + head.body);
+        self.place = behind(head.place, n);
+        self.state = DecoderState::Header(OpeningBytes::default());
+        Some(Event::Frame { head })
     }
 
-    // The first `got` bytes of metadata of `size`, whole or not.
+    // The first `got` bytes of metadata, whole or not.
     fn gathered<R: Reading>(
         &mut self,
         reading: &R,
         metadata: &[u8],
-        marked: bool,
-        size: usize,
+        opening: Opening,
         got: usize,
     ) -> Result<Option<Event>, Fault>
         requires own { length metadata.now ≡ self.old.metadata }
-        requires size { size ≤ self.old.metadata }
-        requires got { got ≤ size }
-        ensures { Gathered (λ bs. facts_of (R.meaning reading.now bs)) metadata.now marked size got self.old result self.new }
+        requires size { opening.size ≤ self.old.metadata }
+        requires got { got ≤ opening.size }
+        ensures { Gathered (λ bs. facts_of (R.meaning reading.now bs)) metadata.now opening got self.old result self.new }
     {
-        if got < size {
-            self.state = DecoderState::Message { marked, size, got };
+        if got < opening.size {
+            self.state = DecoderState::Message { opening, got };
             return Ok(None);
         }
-        let Ok(facts) = reading.facts(&metadata[..size]) else {
+        let Ok(facts) = reading.facts(&metadata[..got]) else {
             return Err(self.stop(Refusal::Metadata));
         };
-        let Some(length) = body_length(&facts, self.body) else {
+        let Some(body) = body_length(&facts, self.body) else {
             return Err(self.stop(Refusal::BodyLength));
         };
-        Ok(self.filled(marked, size, facts, length, 0))
+        let place = self.place;
+        let head = FrameHead {
+            place,
+            opening,
+            facts,
+            body,
+        };
+        Ok(self.filled(head, 0))
     }
 
     // One turn: what there is of an opening, of metadata or of a body, or the refusal of a byte behind the end.
@@ -258,36 +224,27 @@ impl FrameDecoder {
         ensures { Turns (λ bs. facts_of (R.meaning reading.now bs)) self.old metadata.old body.old rest.now result self.new metadata.new body.new }
     {
         match (self.state, rest) {
-            (DecoderState::Header { bytes, got }, [_, ..]) => {
-                let (bytes, used) = fill_opening(bytes, got, rest);
-                let event = self.opened(bytes, got + used, rest[used])?;
+            (DecoderState::Header(mut bytes), [_, ..]) => {
+                let last = bytes.fill(rest);
+                let event = self.opened(bytes, rest[last])?;
                 Ok(Step {
-                    used: used + 1,
+                    used: last + 1,
                     event,
                 })
             }
-            (DecoderState::Message { marked, size, got }, _) => {
-                let used = fill(metadata, got, size, rest);
-                let event = self.gathered(reading, metadata, marked, size, got + used)?;
+            (DecoderState::Message { opening, got }, _) => {
+                let used = fill(metadata, got, opening.size, rest);
+                let event = self.gathered(reading, metadata, opening, got + used)?;
                 Ok(Step { used, event })
             }
-            (
-                DecoderState::Body {
-                    marked,
-                    size,
-                    facts,
-                    length,
-                    got,
-                },
-                _,
-            ) => {
-                let used = fill(body, got, length, rest);
-                let event = self.filled(marked, size, facts, length, got + used);
+            (DecoderState::Body { head, got }, _) => {
+                let used = fill(body, got, head.body, rest);
+                let event = self.filled(head, got + used);
                 Ok(Step { used, event })
             }
             (DecoderState::Finished, [_, ..]) => Err(self.stop(Refusal::BehindEnd)),
             (DecoderState::Stopped { fault }, _) => Err(fault),
-            (_, []) => Ok(NO_STEP),
+            (DecoderState::Header(_) | DecoderState::Finished, []) => Ok(Step::default()),
         }
     }
 }

@@ -1,19 +1,18 @@
 // What comes of a piece of the stream.
+use crate::openings::Opening;
 use message::{Facts, Place};
 
 // A frame that is whole: its metadata are the first bytes of their hold, its body those of the other.
-#[derive(Clone, Copy)]
+#[derive(Clone, Copy, Debug, PartialEq, Eq, Hash)]
 pub struct FrameHead {
     pub place: Place,
-    // whether it opens with the continuation marker
-    pub marked: bool,
-    // how many bytes of metadata, and of body
-    pub size: usize,
-    pub body: usize,
+    pub opening: Opening,
     pub facts: Facts,
+    // how many bytes of body
+    pub body: usize,
 }
 
-#[derive(Clone, Copy)]
+#[derive(Clone, Copy, Debug, PartialEq, Eq, Hash)]
 pub enum Event {
     Frame { head: FrameHead },
     // the end mark
@@ -21,14 +20,8 @@ pub enum Event {
 }
 
 // How many bytes of the piece were used, and what the last of them made whole.
-#[derive(Clone, Copy)]
+#[derive(Clone, Copy, Debug, Default, PartialEq, Eq, Hash)]
 pub struct Step {
     pub used: usize,
     pub event: Option<Event>,
 }
-
-// No byte was used.
-pub(crate) const NO_STEP: Step = Step {
-    used: 0,
-    event: None,
-};

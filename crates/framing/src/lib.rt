@@ -4,7 +4,9 @@
 mod decoder;
 pub mod events;
 pub mod laws;
+pub mod openings;
 pub mod state;
 
 pub use events::{Event, FrameHead, Step};
+pub use openings::Opening;
 pub use state::FrameDecoder;

@@ -1,37 +1,24 @@
 // Where a decoder of frames stands.
 ghost use Rattle.std.specs.Prelude.{◌≤◌};
-ghost use Rattle.framing.specs.Within.{opens, room, reach, held, spans, fills};
+ghost use Rattle.framing.specs.Within.{reach, held, spans, fills};
 
-use message::{Facts, Fault, Place};
+use crate::events::FrameHead;
+use crate::openings::{Opening, OpeningBytes};
+use message::{Fault, Place};
 
-#[derive(Clone, Copy)]
+#[derive(Clone, Copy, Debug, PartialEq, Eq, Hash)]
 pub enum DecoderState {
-    // the first `got` bytes of a frame's opening
-    Header {
-        bytes: [u8; 8],
-        got: usize,
-    },
-    // `got` bytes of `size` of metadata are in their hold
-    Message {
-        marked: bool,
-        size: usize,
-        got: usize,
-    },
-    // the metadata are whole, and `got` bytes of `length` of the body are in its hold
-    Body {
-        marked: bool,
-        size: usize,
-        facts: Facts,
-        length: usize,
-        got: usize,
-    },
+    // between two frames, or in an opening
+    Header(OpeningBytes),
+    // `got` bytes of the metadata are in their hold
+    Message { opening: Opening, got: usize },
+    // the metadata are whole, and `got` bytes of the body are in its hold
+    Body { head: FrameHead, got: usize },
     Finished,
-    Stopped {
-        fault: Fault,
-    },
+    Stopped { fault: Fault },
 }
 
-#[derive(Drop)]
+#[derive(Debug, Drop)]
 pub struct FrameDecoder {
     // the lengths of the two holds
     pub(crate) metadata: usize,
@@ -41,8 +28,6 @@ pub struct FrameDecoder {
     pub(crate) place: Place,
     ghost few: { metadata ≤ 1048576 },
     ghost limited: { body ≤ 16777216 },
-    ghost opening: { opens state ≤ 8 },
-    ghost bytes: { opens state ≤ room state },
     ghost size: { reach state ≤ metadata },
     ghost part: { held state ≤ reach state },
     ghost length: { spans state ≤ body },

@@ -1,17 +1,13 @@
 -- What bytes spell, byte by byte.
-use Rattle.std.proofs.Common.{◌≡◌, ℕ, suc, ◌+◌, ◌*◌, ◌<◌, ◌≤◌, Bool, true, false, nat_le, List, length, get_or, slice_index, take, drop, Some, None, Option, ℤ, MatchOption, IsSomeAnd, sym, refl, ap, ◌∙◌, arith, length-drop, to_z, w16, w32, w64}
+use Rattle.std.proofs.Common.{◌≡◌, ℕ, suc, ◌+◌, ◌-◌, ◌*◌, ◌<◌, ◌≤◌, Bool, true, false, nat_le, List, length, get_or, slice_index, take, drop, Some, None, Option, ℤ, MatchOption, IsSomeAnd, sym, refl, ap, ◌∙◌, arith, length-drop, to_z, w16, w32, w64}
 use Rattle.std.specs.Borrow.{Bor}
 use Rattle.std.specs.Int.{from_le_bytes}
 use Rattle.std.specs.Slice.{IsItemAt}
-use Rattle.std.proofs.lemmas.List.{drop_more, at_drop_all, length-take-le}
-use Rattle.std.proofs.lemmas.Bool.{lt-leb, leb-true}
+use Rattle.std.proofs.lemmas.List.{drop_more, at_drop_all, length-take-le, drop-take, take-take, drop-drop}
+use Rattle.std.proofs.lemmas.Bool.{leb-true, leb-false}
 use mir.Syntax.{Width}
 use Rattle.std.specs.Option.{option_map, option_copied}
-use Rattle.little.specs.Numbers.{le, number_in, inside, number_at, signed_at, number_inside}
-
-pub number_outside : (n : ℕ) (bs : List ℕ) (at : ℕ) → length bs < at + n → number_at n bs at ≡ None
-unfolding number_at
-number_outside n bs at h = rw (lt-leb (at + n) (length bs) h, inside)
+use Rattle.little.specs.Numbers.{le, number_in, inside, number_at, signed_at, number_inside, number_outside}
 
 -- the bytes of a number by their places
 pub le_places : (n : ℕ) (ys : List ℕ) (i : ℕ) → i < length ys → le (take (suc n) (drop i ys)) ≡ get_or ys i 0 + 256 * le (take n (drop (i + 1) ys))
@@ -71,3 +67,24 @@ module _ (n : ℕ) (bs : List ℕ) (at : ℕ) (f : List ℕ → ℕ) (o : Option
 pub byte_read : (bs : List ℕ) (at : ℕ) (r : Option (Bor ℕ)) → IsItemAt bs at r → option_copied r ≡ number_at 1 bs at
 byte_read bs at None e = sym (number_outside 1 bs at (search (arith, e)))
 byte_read bs at (Some x) e = sym (byte_inside bs at (search (arith, e)) ∙ search (arith, e))
+
+-- what the answer of a read says of the bytes
+module _ {A : Type 0} (n : ℕ) (bs : List ℕ) (at : ℕ) (v : A) (o : Option A) (whole : at + n ≤ length bs → o ≡ Some v) (cut : length bs < at + n → o ≡ None) where
+  pub read_none : None ≡ o → length bs < at + n
+  read_none e = by (nat_le (at + n) (length bs)) refl where
+    by : (b : Bool) → nat_le (at + n) (length bs) ≡ b → length bs < at + n
+    by true t = let w = whole (leb-true (at + n) (length bs) t) in let z : ◌≡◌ {A = ℕ} 0 1 = cc in absurd (omega arith)
+    by false t = leb-false (at + n) (length bs) t
+
+  pub read_some : (x : A) → Some x ≡ o → (at + n ≤ length bs) × (x ≡ v)
+  read_some x e = by (nat_le (at + n) (length bs)) refl where
+    by : (b : Bool) → nat_le (at + n) (length bs) ≡ b → (at + n ≤ length bs) × (x ≡ v)
+    by true t = let h = leb-true (at + n) (length bs) t in let w = whole h in (h, cc)
+    by false t = let w = cut (leb-false (at + n) (length bs) t) in let z : ◌≡◌ {A = ℕ} 0 1 = cc in absurd (omega arith)
+
+-- a number within a part of the bytes
+pub number_in_part : (n p w : ℕ) (bs : List ℕ) (at : ℕ) → p + n ≤ w → number_in n (take w (drop at bs)) p ≡ number_in n bs (at + p)
+unfolding number_in
+number_in_part n p w bs at h =
+    let e : w ≡ p + (w - p) = omega arith in
+    ap (λ k. le (take n (drop p (take k (drop at bs))))) e ∙ ap (λ ys. le (take n ys)) (drop-take p (w - p) (drop at bs)) ∙ ap le (take-take n (w - p) (drop p (drop at bs)) (omega arith)) ∙ ap (λ ys. le (take n ys)) (drop-drop p at bs)

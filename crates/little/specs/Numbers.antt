@@ -1,7 +1,7 @@
 -- Little-endian numbers within a list of bytes.
 use Rattle.std.specs.Prelude.{ℕ, ◌+◌, ◌*◌, true, false, List, [], ◌∷◌, length, take, drop, ℤ, Some, None, Option, nat_le}
-use Rattle.std.proofs.Common.{◌≡◌, ◌≤◌, ap, to_z}
-use Rattle.std.proofs.lemmas.Bool.{le-leb}
+use Rattle.std.proofs.Common.{◌≡◌, ◌<◌, ◌≤◌, ap, to_z}
+use Rattle.std.proofs.lemmas.Bool.{le-leb, lt-leb}
 use Rattle.std.specs.Int.{Width, w16, w32, w64}
 use Rattle.std.specs.Option.{option_map}
 
@@ -47,10 +47,23 @@ i32_at = signed_at w32 4
 abbrev pub i64_at : List ℕ → ℕ → Option ℤ
 i64_at = signed_at w64 8
 
--- a number is there where its bytes are
+-- what is there where its bytes are, and only there
+pub inside_whole : {A : Type 0} (n : ℕ) (bs : List ℕ) (at : ℕ) (v : A) → at + n ≤ length bs → inside n bs at v ≡ Some v
+inside_whole n bs at v h = rw (le-leb (at + n) (length bs) h, inside)
+
+pub inside_cut : {A : Type 0} (n : ℕ) (bs : List ℕ) (at : ℕ) (v : A) → length bs < at + n → inside n bs at v ≡ None
+inside_cut n bs at v h = rw (lt-leb (at + n) (length bs) h, inside)
+
 pub number_inside : (n : ℕ) (bs : List ℕ) (at : ℕ) → at + n ≤ length bs → number_at n bs at ≡ Some (number_in n bs at)
 unfolding number_at
-number_inside n bs at h = rw (le-leb (at + n) (length bs) h, inside)
+number_inside n bs at h = inside_whole n bs at (number_in n bs at) h
+
+pub number_outside : (n : ℕ) (bs : List ℕ) (at : ℕ) → length bs < at + n → number_at n bs at ≡ None
+unfolding number_at
+number_outside n bs at h = inside_cut n bs at (number_in n bs at) h
 
 pub signed_inside : (w : Width) (n : ℕ) (bs : List ℕ) (at : ℕ) → at + n ≤ length bs → signed_at w n bs at ≡ Some (to_z w (number_in n bs at))
 signed_inside w n bs at h = ap (option_map (to_z w)) (number_inside n bs at h)
+
+pub signed_outside : (w : Width) (n : ℕ) (bs : List ℕ) (at : ℕ) → length bs < at + n → signed_at w n bs at ≡ None
+signed_outside w n bs at h = ap (option_map (to_z w)) (number_outside n bs at h)

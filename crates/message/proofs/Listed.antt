@@ -1,5 +1,7 @@
 -- Item k of a list of items that fill a part of the bytes.
-use Rattle.std.proofs.Common.{◌≡◌, ℕ, zero, suc, ◌+◌, ◌*◌, ◌/◌, ◌<◌, ◌≤◌, List, map, length, Some, None, ap, ◌∙◌, zero-add, arith}
+use Rattle.std.proofs.Common.{◌≡◌, ℕ, zero, suc, ◌+◌, ◌*◌, ◌/◌, ◌<◌, ◌≤◌, Bool, true, false, nat_le, List, map, length, Some, None, Option, sym, refl, ap, ◌∙◌, zero-add, mul_comm, arith}
+use Rattle.std.proofs.lemmas.Bool.{leb-true, leb-false}
+use Rattle.std.proofs.lemmas.Nat.{le-div, div_below}
 use Rattle.std.specs.List.{range_with_len, slice_get}
 use Rattle.std.proofs.lemmas.List.FromFn.{length-map-range_with_len}
 use Rattle.std.proofs.lemmas.Option.{slice_get_past}
@@ -23,3 +25,18 @@ module _ {A : Type 0} (width : ℕ) (item : List ℕ → ℕ → A) (part : List
 
   pub nth_listed_past : (k : ℕ) → length part / width ≤ k → slice_get (listed width item part) k ≡ None
   nth_listed_past k h = slice_get_past (listed width item part) k (omega (arith, length_listed))
+
+-- an item is read at the place where it lies
+module _ {A : Type 0} (width : ℕ) (item : List ℕ → ℕ → A) (part : List ℕ) (read : ℕ → Option A) (positive : 0 < width) (whole : (at : ℕ) → at + width ≤ length part → read at ≡ Some (item part at)) (cut : (at : ℕ) → length part < at + width → read at ≡ None) where
+  pub read_listed : (k : ℕ) → read (width * k) ≡ slice_get (listed width item part) k
+  read_listed k = by (nat_le (width * k + width) (length part)) refl where
+    by : (b : Bool) → nat_le (width * k + width) (length part) ≡ b → read (width * k) ≡ slice_get (listed width item part) k
+    by true t =
+        let h = leb-true (width * k + width) (length part) t in
+        whole (width * k) h ∙ sym (nth_listed width item part k (le-div (suc k) (length part) width positive (omega (arith, mul_comm width k, h))))
+    by false t =
+        let h = leb-false (width * k + width) (length part) t in
+        cut (width * k) h ∙ sym (nth_listed_past width item part k (omega (arith, div_below (length part) width (suc k) positive (omega (arith, mul_comm width k, h)))))
+
+  pub past_listed : (k : ℕ) → length part ≤ width * k → None ≡ slice_get (listed width item part) k
+  past_listed k h = sym (cut (width * k) (omega arith)) ∙ read_listed k

@@ -5,6 +5,7 @@ use Rattle.std.specs.Int.{w64}
 use Rattle.little.specs.Numbers.{number_in}
 use Rattle.message.specs.declared.items.Node.{Node}
 use Rattle.message.specs.declared.items.Buffer.{Buffer}
+use Rattle.message.specs.declared.rows.Row.{Row}
 use Rattle.message.specs.Listed.{listed}
 
 abbrev pub count_at : List ℕ → ℕ → ℤ
@@ -26,3 +27,18 @@ buffers_in = listed 16 buffer_at
 
 abbrev pub counts_in : List ℕ → List ℤ
 counts_in = listed 8 count_at
+
+-- a row of 24 bytes, as the slip form has it: kind, flag, tag and an unread byte, parameter (4), id (8, signed), end (4),
+-- 4 unread bytes
+abbrev pub row_at : List ℕ → ℕ → Row
+row_at bs at = record {
+  kind = number_in 1 bs at;
+  flag = number_in 1 bs (at + 1);
+  tag = number_in 1 bs (at + 2);
+  parameter = number_in 4 bs (at + 4);
+  id = to_z w64 (number_in 8 bs (at + 8));
+  end = number_in 4 bs (at + 16);
+}
+
+abbrev pub rows_in : List ℕ → List Row
+rows_in = listed 24 row_at

@@ -2,4 +2,3 @@ pub mod Faults
 pub mod Listed
 pub mod Items
 pub mod Messages
-pub mod Shown

@@ -2,100 +2,71 @@
 ghost use Rattle.std.specs.Prelude.{◌≡◌};
 ghost use Rattle.message.specs.Faults.{bare, number_of, placed};
 
-#[derive(Clone, Copy)]
+#[derive(Clone, Copy, Debug, PartialEq, Eq, Hash)]
 pub enum Refusal {
     // a memory's length is out of bounds, or not the one that it had at first
-    Lengths,
+    Lengths = 1,
     // more than 64 column numbers
-    ChoiceLength,
+    ChoiceLength = 2,
     // a byte behind the end of the stream
-    BehindEnd,
+    BehindEnd = 3,
     // metadata longer than their hold
-    MetadataSize,
+    MetadataSize = 4,
     // metadata that the reading refuses
-    Metadata,
+    Metadata = 5,
     // a body length below 0, or above the body's hold
-    BodyLength,
+    BodyLength = 6,
     // a header type above 3
-    HeaderType,
+    HeaderType = 7,
     // a schema where there is one already
-    SecondSchema,
+    SecondSchema = 8,
     // rows that are no schema
-    Rows,
+    Rows = 9,
     // a batch before the schema
-    NoSchema,
+    NoSchema = 10,
     // a dictionary batch whose id no field has
-    NoSuchId,
+    NoSuchId = 11,
     // a compressed batch, or one without its lists
-    Marks,
+    Marks = 12,
     // more nodes, buffers or counts than their table has room for
-    ListLength,
+    ListLength = 13,
     // a row without its node
-    NoNode,
+    NoNode = 14,
     // a node that is no length with a null count
-    NodeRange,
+    NodeRange = 15,
     // a view without its count, or with more buffers than are left
-    ViewCount,
+    ViewCount = 16,
     // a row without one of its buffers
-    NoBuffer,
+    NoBuffer = 17,
     // a buffer that does not lie within the body
-    BufferRange,
+    BufferRange = 18,
     // a column that breaks a rule of its kind
-    Rule,
+    Rule = 19,
     // a chosen number that names no column
-    NoSuchColumn,
+    NoSuchColumn = 20,
     // counts that no view takes
-    CountsLeft,
+    CountsLeft = 21,
     // a batch length out of bounds, or unlike that of a shown column
-    BatchLength,
+    BatchLength = 22,
     // a delta for an id that is not held
-    DeltaFirst,
+    DeltaFirst = 23,
     // more ids, or more values, than the store has room for
-    Room,
+    Room = 24,
     // the stream stops inside a frame
-    Unfinished,
+    Unfinished = 25,
     // no batch is current
-    NoBatch,
+    NoBatch = 26,
     // a number that is not below its count
-    OutOfRange,
+    OutOfRange = 27,
     // a memory was changed, so that a rule no longer holds
-    Changed,
+    Changed = 28,
 }
 
 impl Refusal {
     pub fn number(self) -> u8
         ensures { result ≡ number_of self }
     {
-        match self {
-            Refusal::Lengths => 1,
-            Refusal::ChoiceLength => 2,
-            Refusal::BehindEnd => 3,
-            Refusal::MetadataSize => 4,
-            Refusal::Metadata => 5,
-            Refusal::BodyLength => 6,
-            Refusal::HeaderType => 7,
-            Refusal::SecondSchema => 8,
-            Refusal::Rows => 9,
-            Refusal::NoSchema => 10,
-            Refusal::NoSuchId => 11,
-            Refusal::Marks => 12,
-            Refusal::ListLength => 13,
-            Refusal::NoNode => 14,
-            Refusal::NodeRange => 15,
-            Refusal::ViewCount => 16,
-            Refusal::NoBuffer => 17,
-            Refusal::BufferRange => 18,
-            Refusal::Rule => 19,
-            Refusal::NoSuchColumn => 20,
-            Refusal::CountsLeft => 21,
-            Refusal::BatchLength => 22,
-            Refusal::DeltaFirst => 23,
-            Refusal::Room => 24,
-            Refusal::Unfinished => 25,
-            Refusal::NoBatch => 26,
-            Refusal::OutOfRange => 27,
-            Refusal::Changed => 28,
-        }
+        self as u8
     }
 
     // The refusal of a call, which no frame brought about.
@@ -115,22 +86,20 @@ impl Refusal {
         ensures { result ≡ placed self place }
     {
         Fault {
-            refusal: self,
             place: Some(place),
-            row: None,
-            index: None,
+            ..self.bare()
         }
     }
 }
 
 // A frame by the number of frames before it and the position of its first byte, both modulo 2^64.
-#[derive(Clone, Copy)]
+#[derive(Clone, Copy, Debug, Default, PartialEq, Eq, Hash)]
 pub struct Place {
     pub message: u64,
     pub position: u64,
 }
 
-#[derive(Clone, Copy)]
+#[derive(Clone, Copy, Debug, PartialEq, Eq, Hash)]
 pub struct Fault {
     pub refusal: Refusal,
     pub place: Option<Place>,

@@ -1,7 +1,7 @@
 // What a message says of itself, without its lists.
 
 // How many of each list a batch has, beside its length and its marks.
-#[derive(Clone, Copy)]
+#[derive(Clone, Copy, Debug, PartialEq, Eq, Hash)]
 pub struct BatchFacts {
     pub length: i64,
     pub compressed: bool,
@@ -13,7 +13,7 @@ pub struct BatchFacts {
 }
 
 // What a message is about, by its header type.
-#[derive(Clone, Copy)]
+#[derive(Clone, Copy, Debug, PartialEq, Eq, Hash)]
 pub enum Header {
     Empty,
     Schema {
@@ -32,7 +32,7 @@ pub enum Header {
     },
 }
 
-#[derive(Clone, Copy)]
+#[derive(Clone, Copy, Debug, PartialEq, Eq, Hash)]
 pub struct Facts {
     pub version: i16,
     // the length of the body that follows the metadata

@@ -1,71 +1,91 @@
-// Nodes, buffers and counts: structs of little-endian numbers, one after the other.
-ghost use Rattle.std.specs.Prelude.{◌≡◌, ℕ, ◌+◌, ◌≤◌, length};
-ghost use Rattle.message.specs.Items.{count_at, nodes_in, buffers_in, counts_in};
-ghost use Rattle.std.specs.List.{slice_get};
+// Nodes and buffers: signed numbers of 8 bytes, one after the other.
+ghost use Rattle.std.specs.Prelude.{◌≡◌, ◌+◌, ◌≤◌, length};
+ghost use Rattle.std.proofs.Common.{rules};
+ghost use Rattle.little.specs.Numbers.{inside, inside_whole, inside_cut};
+ghost use Rattle.message.specs.Items.{node_at, buffer_at};
 
-// The length of a column and how many of its slots are absent.
-#[derive(Clone, Copy)]
+use little::{Little, bytes_at};
+
+/// The length of a column and how many of its slots are absent.
+#[derive(Clone, Copy, Debug, Default, PartialEq, Eq, Hash)]
 pub struct Node {
     pub length: i64,
     pub nulls: i64,
 }
 
-// Where a buffer lies in the body.
-#[derive(Clone, Copy)]
+/// Where a buffer lies in the body.
+#[derive(Clone, Copy, Debug, Default, PartialEq, Eq, Hash)]
 pub struct Buffer {
     pub offset: i64,
     pub length: i64,
 }
 
-// The signed number of 8 bytes at a place.
-fn signed_at(bytes: &[u8], at: usize) -> i64
-    requires { at + 8 ≤ length bytes.now }
-    ensures { result ≡ count_at bytes.now at }
+// A number of an item, by its place there.
+pub(crate) fn field<T: Little>(item: &[u8], at: usize) -> T
+    requires { at + T.WIDTH ≤ length item.now }
+    ensures { result ≡ T.number item.now at }
 {
-    i64::from_le_bytes([
-        bytes[at],
-        bytes[at + 1],
-        bytes[at + 2],
-        bytes[at + 3],
-        bytes[at + 4],
-        bytes[at + 5],
-        bytes[at + 6],
-        bytes[at + 7],
-    ])
+    T::read_at(item, at).unwrap()
 }
 
-// Node k of a list of nodes.
-pub fn node_in(list: &[u8], k: usize) -> Option<Node>
-    ensures { result ≡ slice_get (nodes_in list.now) k }
-{
-    if k >= list.len() / 16 {
-        return None;
+impl Node {
+    fn from_bytes(bytes: [u8; 16]) -> Node
+        ensures { result ≡ node_at bytes 0 }
+    {
+        Node {
+            length: field(&bytes, 0),
+            nulls: field(&bytes, 8),
+        }
     }
-    Some(Node {
-        length: signed_at(list, 16 * k),
-        nulls: signed_at(list, 16 * k + 8),
-    })
 }
 
-// Buffer k of a list of buffers.
-pub fn buffer_in(list: &[u8], k: usize) -> Option<Buffer>
-    ensures { result ≡ slice_get (buffers_in list.now) k }
-{
-    if k >= list.len() / 16 {
-        return None;
+impl Little for Node {
+    const WIDTH: usize = 16;
+
+    ghost WIDTH = { 16 };
+
+    ghost number = { node_at };
+
+    ghost number_at = { λ bs at. inside 16 bs at (node_at bs at) };
+
+    ghost positive = { Prim.search rules };
+
+    ghost whole = { λ bs at. inside_whole 16 bs at (node_at bs at) };
+
+    ghost cut = { λ bs at. inside_cut 16 bs at (node_at bs at) };
+
+    fn read_at(bytes: &[u8], at: usize) -> Option<Node> {
+        bytes_at(bytes, at).map(Node::from_bytes)
     }
-    Some(Buffer {
-        offset: signed_at(list, 16 * k),
-        length: signed_at(list, 16 * k + 8),
-    })
 }
 
-// Number k of a list of counts.
-pub fn count_in(list: &[u8], k: usize) -> Option<i64>
-    ensures { result ≡ slice_get (counts_in list.now) k }
-{
-    if k >= list.len() / 8 {
-        return None;
+impl Buffer {
+    fn from_bytes(bytes: [u8; 16]) -> Buffer
+        ensures { result ≡ buffer_at bytes 0 }
+    {
+        Buffer {
+            offset: field(&bytes, 0),
+            length: field(&bytes, 8),
+        }
     }
-    Some(signed_at(list, 8 * k))
+}
+
+impl Little for Buffer {
+    const WIDTH: usize = 16;
+
+    ghost WIDTH = { 16 };
+
+    ghost number = { buffer_at };
+
+    ghost number_at = { λ bs at. inside 16 bs at (buffer_at bs at) };
+
+    ghost positive = { Prim.search rules };
+
+    ghost whole = { λ bs at. inside_whole 16 bs at (buffer_at bs at) };
+
+    ghost cut = { λ bs at. inside_cut 16 bs at (buffer_at bs at) };
+
+    fn read_at(bytes: &[u8], at: usize) -> Option<Buffer> {
+        bytes_at(bytes, at).map(Buffer::from_bytes)
+    }
 }

@@ -11,6 +11,6 @@ pub mod rows;
 pub use faults::{Fault, Place, Refusal};
 pub use headers::{BatchFacts, Facts, Header};
 pub use items::{Buffer, Node};
-pub use lists::ItemList;
+pub use lists::{ItemList, Items};
 pub use readings::{ListSizes, Reading, Refused};
-pub use rows::{NO_ROW, Row};
+pub use rows::Row;

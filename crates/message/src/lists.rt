@@ -1,12 +1,12 @@
 // Lists by their items.
-ghost use Rattle.std.specs.Prelude.{◌≡◌, List};
-ghost use Rattle.message.specs.Items.{nodes_in, buffers_in, counts_in};
-ghost use Rattle.message.specs.Listed.{Lays, TellsItems};
+ghost use Rattle.std.specs.Prelude.{◌≡◌, ◌↔◌, List, [], length, IsTrue};
+ghost use Rattle.message.specs.Listed.{Lays, TellsItems, listed};
 ghost use Rattle.std.specs.List.{slice_get};
 
-use crate::items::{Buffer, Node, buffer_in, count_in, node_in};
+use little::Little;
+use std::marker::PhantomData;
 
-// A list whose items are asked for by their numbers.
+/// A list whose items are asked for by their numbers.
 pub trait ItemList {
     type Item: Copy;
 
@@ -29,55 +29,62 @@ pub(crate) fn lay<T: Copy, F: Fn(usize) -> Option<T>>(table: &mut [T], item: F) 
     requires { F.IsAlwaysCallable item }
     ensures { (items : List T) → TellsItems (F.post item) items → Lays items table.old result table.new }
 {
-    let mut n = 0;
-    while n < table.len() {
+    for n in 0..table.len() {
         match item(n) {
             Some(item) => table[n] = item,
-            None => break,
+            None => return n,
         }
-        n += 1;
     }
-    n
+    table.len()
 }
 
-// A list of nodes, as the bytes that it fills.
+/// A list of items that stand one after the other, as the bytes that it fills.
 #[derive(Clone, Copy)]
-pub struct Nodes<'a>(pub &'a [u8]);
-
-impl<'a> ItemList for Nodes<'a> {
-    type Item = Node;
-
-    ghost items = { λ s. nodes_in s.0.now };
-
-    fn get(&self, k: usize) -> Option<Node> {
-        node_in(self.0, k)
-    }
+pub struct Items<'a, T> {
+    pub bytes: &'a [u8],
+    pub of: PhantomData<T>,
 }
 
-// A list of buffers.
-#[derive(Clone, Copy)]
-pub struct Buffers<'a>(pub &'a [u8]);
-
-impl<'a> ItemList for Buffers<'a> {
-    type Item = Buffer;
-
-    ghost items = { λ s. buffers_in s.0.now };
-
-    fn get(&self, k: usize) -> Option<Buffer> {
-        buffer_in(self.0, k)
+impl<'a, T> Items<'a, T> {
+    pub fn new(bytes: &'a [u8]) -> Items<'a, T>
+        ensures { result.bytes.now ≡ bytes.now }
+    {
+        Items {
+            bytes,
+            of: PhantomData,
+        }
     }
 }
 
-// A list of counts.
-#[derive(Clone, Copy)]
-pub struct Counts<'a>(pub &'a [u8]);
+impl<'a, T: Little> Items<'a, T> {
+    pub fn len(&self) -> usize
+        ensures { result ≡ length (listed T.WIDTH T.number self.now.bytes.now) }
+    {
+        self.bytes.len() / T::WIDTH
+    }
 
-impl<'a> ItemList for Counts<'a> {
-    type Item = i64;
+    pub fn is_empty(&self) -> bool
+        ensures { IsTrue result ↔ (listed T.WIDTH T.number self.now.bytes.now ≡ []) }
+    {
+        self.len() == 0
+    }
+}
 
-    ghost items = { λ s. counts_in s.0.now };
+// A list of no items.
+impl<'a, T> Default for Items<'a, T> {
+    ghost is_default = { λ s. s.bytes.now ≡ [] };
 
-    fn get(&self, k: usize) -> Option<i64> {
-        count_in(self.0, k)
+    fn default() -> Items<'a, T> {
+        Items::new(&[])
+    }
+}
+
+impl<'a, T: Little + Copy> ItemList for Items<'a, T> {
+    type Item = T;
+
+    ghost items = { λ s. listed T.WIDTH T.number s.bytes.now };
+
+    fn get(&self, k: usize) -> Option<T> {
+        T::read_at(self.bytes, k.checked_mul(T::WIDTH)?)
     }
 }

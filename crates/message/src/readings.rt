@@ -10,18 +10,18 @@ use crate::lists::lay;
 use crate::rows::Row;
 
 // The bytes are not metadata of this form.
-#[derive(Clone, Copy)]
+#[derive(Clone, Copy, Debug, PartialEq, Eq, Hash)]
 pub struct Refused;
 
 // How many items of each list of a batch went into its table.
-#[derive(Clone, Copy)]
+#[derive(Clone, Copy, Debug, Default, PartialEq, Eq, Hash)]
 pub struct ListSizes {
     pub nodes: usize,
     pub buffers: usize,
     pub counts: usize,
 }
 
-// A reading answers what its meaning gives for the bytes, and a question changes nothing.
+/// A reading answers what its meaning gives for the bytes, and a question changes nothing.
 pub trait Reading {
     ghost meaning: { Self → List ℕ → Read };
 
@@ -31,6 +31,7 @@ pub trait Reading {
     fn row(&self, bytes: &[u8], k: usize) -> Option<Row>
         ensures { result ≡ slice_get (rows_of (meaning self.now bytes.now)) k };
 
+    // Three questions, and not one over the item's type: a reading has each list in another place.
     fn node(&self, bytes: &[u8], k: usize) -> Option<Node>
         ensures { result ≡ slice_get (nodes_of (meaning self.now bytes.now)) k };
 
@@ -45,15 +46,7 @@ pub trait Reading {
         ensures count { result ≡ min (length (rows_of (meaning self.now bytes.now))) (length table.old) }
         ensures table { table.new ≡ laid result (rows_of (meaning self.now bytes.now)) table.old }
     {
-        let mut n = 0;
-        while n < table.len() {
-            match self.row(bytes, n) {
-                Some(row) => table[n] = row,
-                None => break,
-            }
-            n += 1;
-        }
-        n
+        lay(table, |k| self.row(bytes, k))
     }
 
     // The other lists at once: each puts its items at the front of a table, as many as there are and it has room for, and
@@ -61,19 +54,19 @@ pub trait Reading {
     fn nodes(&self, bytes: &[u8], table: &mut [Node]) -> usize
         ensures { Lays (nodes_of (meaning self.now bytes.now)) table.old result table.new }
     {
-        lay(table, |k| self.node(bytes, k))
+        self.lists(bytes, table, &mut [], &mut []).nodes
     }
 
     fn buffers(&self, bytes: &[u8], table: &mut [Buffer]) -> usize
         ensures { Lays (buffers_of (meaning self.now bytes.now)) table.old result table.new }
     {
-        lay(table, |k| self.buffer(bytes, k))
+        self.lists(bytes, &mut [], table, &mut []).buffers
     }
 
     fn counts(&self, bytes: &[u8], table: &mut [i64]) -> usize
         ensures { Lays (counts_of (meaning self.now bytes.now)) table.old result table.new }
     {
-        lay(table, |k| self.count(bytes, k))
+        self.lists(bytes, &mut [], &mut [], table).counts
     }
 
     // Nodes, buffers and counts together.
@@ -89,9 +82,9 @@ pub trait Reading {
         ensures counts { Lays (counts_of (meaning self.now bytes.now)) counts.old result.counts counts.new }
     {
         ListSizes {
-            nodes: self.nodes(bytes, nodes),
-            buffers: self.buffers(bytes, buffers),
-            counts: self.counts(bytes, counts),
+            nodes: lay(nodes, |k| self.node(bytes, k)),
+            buffers: lay(buffers, |k| self.buffer(bytes, k)),
+            counts: lay(counts, |k| self.count(bytes, k)),
         }
     }
 }

@@ -62,7 +62,7 @@ sound_closed k (field r kids next) =
 
 -- what the test finds is a schema
 found : (rows : List Row) (o : Option Fields) → parse (length rows) 0 (length rows) rows ≡ o → admitted rows o ≡ true → Schema rows
-found rows None p e = let z : ◌≡◌ {A = ℕ} 0 1 = cc in absurd (omega arith)
+found rows None p e = cc
 found rows (Some fs) p e =
     let reads = parse_reads (length rows) 0 (length rows) rows fs p in
     let long : size fs ≡ length rows = omega (arith, reads.long) in

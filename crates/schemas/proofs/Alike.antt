@@ -1,5 +1,5 @@
 -- Columns that are shown and columns that are not take alike.
-use Rattle.std.proofs.Common.{◌≡◌, ℕ, zero, suc, ◌+◌, Bool, true, false, eqb, leb, List, [], ◌∷◌, length, get_or, drop, ℤ, pos, negsuc, Some, None, Option, sym, refl, ap, ◌∙◌, subst, arith}
+use Rattle.std.proofs.Common.{◌≡◌, ℕ, zero, suc, ◌+◌, Bool, true, false, cond, eqb, leb, List, [], ◌∷◌, length, get_or, drop, ℤ, pos, negsuc, Some, None, Option, sym, refl, ap, ◌∙◌, subst}
 use Rattle.std.proofs.lemmas.List.{drop-drop}
 use Rattle.std.specs.Option.{option_map}
 use Rattle.little.specs.Maybe.{and_then}
@@ -84,7 +84,7 @@ pop_is : {A : Type 0} (n : ℕ) (xs ys : List A) → pop n xs ≡ Some ys → ys
 pop_is n xs ys e = by (leb n (length xs)) e where
   by : (b : Bool) → elim b [ true ↦ Some (drop n xs) | false ↦ None ] ≡ Some ys → ys ≡ drop n xs
   by true e = cc
-  by false e = let z : ◌≡◌ {A = ℕ} 0 1 = cc in absurd (omega arith)
+  by false e = cc
 
 node_is : (q p : Queue) → pop_node q ≡ Some p → p ≡ record { nodes = drop 1 q.nodes; buffers = q.buffers; counts = q.counts }
 node_is q p e = let m = mapped_is _ (pop 1 q.nodes) p e in m.2 ∙ ap (λ ns. record { nodes = ns; buffers = q.buffers; counts = q.counts }) (pop_is 1 q.nodes m.0 m.1)
@@ -94,46 +94,39 @@ buffers_is n q p e = let m = mapped_is _ (pop n q.buffers) p e in m.2 ∙ ap (λ
 
 -- a count that is there, by its place
 count_is : (cs : List ℤ) (k c : ℕ) → view_count (drop k cs) ≡ Some c → natural (get_or cs k (pos 0)) ≡ c
-count_is [] zero c e = let z : ◌≡◌ {A = ℕ} 0 1 = cc in absurd (omega arith)
-count_is [] (suc k) c e = let z : ◌≡◌ {A = ℕ} 0 1 = cc in absurd (omega arith)
+count_is [] zero c e = cc
+count_is [] (suc k) c e = cc
 count_is (pos n ∷ cs) zero c e = cc
-count_is (negsuc n ∷ cs) zero c e = let z : ◌≡◌ {A = ℕ} 0 1 = cc in absurd (omega arith)
+count_is (negsuc n ∷ cs) zero c e = cc
 count_is (x ∷ cs) (suc k) c e = count_is cs k c e
 
 -- only a view's buffers hang on a count
+needs : (kind : Kind) (version : ℤ) (c : ℕ) → (buffers_of version c kind ≡ cond (is_view kind) (c + 2) (buffers_of version 0 kind)) × (counts_of kind ≡ cond (is_view kind) 1 0)
+needs Null version c = (refl, refl)
+needs BoolKind version c = (refl, refl)
+needs Fixed version c = (refl, refl)
+needs Binary version c = (refl, refl)
+needs LargeBinary version c = (refl, refl)
+needs View version c = (refl, refl)
+needs ListKind version c = (refl, refl)
+needs LargeList version c = (refl, refl)
+needs ListView version c = (refl, refl)
+needs LargeListView version c = (refl, refl)
+needs FixedSizeList version c = (refl, refl)
+needs Struct version c = (refl, refl)
+needs Dictionary version c = (refl, refl)
+needs SparseUnion version c = (refl, refl)
+needs DenseUnion version c = (refl, refl)
+
 plain : (kind : Kind) (version : ℤ) (c : ℕ) → is_view kind ≡ false → (buffers_of version c kind ≡ buffers_of version 0 kind) × (counts_of kind ≡ 0)
-plain Null version c e = (refl, refl)
-plain BoolKind version c e = (refl, refl)
-plain Fixed version c e = (refl, refl)
-plain Binary version c e = (refl, refl)
-plain LargeBinary version c e = (refl, refl)
-plain View version c e = let z : ◌≡◌ {A = ℕ} 0 1 = cc in absurd (omega arith)
-plain ListKind version c e = (refl, refl)
-plain LargeList version c e = (refl, refl)
-plain ListView version c e = (refl, refl)
-plain LargeListView version c e = (refl, refl)
-plain FixedSizeList version c e = (refl, refl)
-plain Struct version c e = (refl, refl)
-plain Dictionary version c e = (refl, refl)
-plain SparseUnion version c e = (refl, refl)
-plain DenseUnion version c e = (refl, refl)
+plain kind version c e =
+    let n = needs kind version c in
+    (n.0 ∙ ap (λ b. cond b (c + 2) (buffers_of version 0 kind)) e, n.1 ∙ ap (λ b. cond b 1 0) e)
 
 view : (kind : Kind) (version : ℤ) (c : ℕ) → is_view kind ≡ true → (buffers_of version c kind ≡ c + 2) × (counts_of kind ≡ 1)
-view Null version c e = let z : ◌≡◌ {A = ℕ} 0 1 = cc in absurd (omega arith)
-view BoolKind version c e = let z : ◌≡◌ {A = ℕ} 0 1 = cc in absurd (omega arith)
-view Fixed version c e = let z : ◌≡◌ {A = ℕ} 0 1 = cc in absurd (omega arith)
-view Binary version c e = let z : ◌≡◌ {A = ℕ} 0 1 = cc in absurd (omega arith)
-view LargeBinary version c e = let z : ◌≡◌ {A = ℕ} 0 1 = cc in absurd (omega arith)
-view View version c e = (refl, refl)
-view ListKind version c e = let z : ◌≡◌ {A = ℕ} 0 1 = cc in absurd (omega arith)
-view LargeList version c e = let z : ◌≡◌ {A = ℕ} 0 1 = cc in absurd (omega arith)
-view ListView version c e = let z : ◌≡◌ {A = ℕ} 0 1 = cc in absurd (omega arith)
-view LargeListView version c e = let z : ◌≡◌ {A = ℕ} 0 1 = cc in absurd (omega arith)
-view FixedSizeList version c e = let z : ◌≡◌ {A = ℕ} 0 1 = cc in absurd (omega arith)
-view Struct version c e = let z : ◌≡◌ {A = ℕ} 0 1 = cc in absurd (omega arith)
-view Dictionary version c e = let z : ◌≡◌ {A = ℕ} 0 1 = cc in absurd (omega arith)
-view SparseUnion version c e = let z : ◌≡◌ {A = ℕ} 0 1 = cc in absurd (omega arith)
-view DenseUnion version c e = let z : ◌≡◌ {A = ℕ} 0 1 = cc in absurd (omega arith)
+view kind version c e =
+    let n = needs kind version c in
+    (n.0 ∙ ap (λ b. cond b (c + 2) (buffers_of version 0 kind)) e, n.1 ∙ ap (λ b. cond b 1 0) e)
 
 module _ (version : ℤ) (Q : Queue) where
   abbrev count_of : Taken → ℕ

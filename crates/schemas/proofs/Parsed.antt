@@ -25,7 +25,7 @@ no_rows : (k stop : ℕ) (rows : List Row) (b : Bool) (fs : Fields) → eqb k st
 no_rows k stop rows true fs t e =
     let d : none ≡ fs = cc in
     subst (Reads k stop rows) d (record { long = let q = eqb-true k stop t in omega (arith, q); same = refl })
-no_rows k stop rows false fs t e = let z : ◌≡◌ {A = ℕ} 0 1 = cc in absurd (omega arith)
+no_rows k stop rows false fs t e = cc
 
 -- a row with its children and what stands behind them
 one_more : (k stop : ℕ) (r : Row) (rest : List Row) (kids next : Fields) → Reads (k + 1) r.end rest kids → Reads r.end stop (drop (r.end - (k + 1)) rest) next → Reads k stop (r ∷ rest) (field r kids next)
@@ -45,13 +45,13 @@ one_more k stop r rest kids next a b =
 
 module _ (k stop : ℕ) (r : Row) (rest : List Row) (inner : Option Fields) (outer : Option Fields) (fs : Fields) where
   read_both : (inner outer : Option Fields) → and_then inner (λ kids. option_map (field r kids) outer) ≡ Some fs → (kids : Fields) × (next : Fields) × (inner ≡ Some kids) × (outer ≡ Some next) × (field r kids next ≡ fs)
-  read_both None outer e = let z : ◌≡◌ {A = ℕ} 0 1 = cc in absurd (omega arith)
-  read_both (Some kids) None e = let z : ◌≡◌ {A = ℕ} 0 1 = cc in absurd (omega arith)
+  read_both None outer e = cc
+  read_both (Some kids) None e = cc
   read_both (Some kids) (Some next) e = (kids, next, refl, refl, cc)
 
   row_read : (b c : Bool) → eqb k stop ≡ b → ((kids : Fields) → inner ≡ Some kids → Reads (k + 1) r.end rest kids) → ((next : Fields) → outer ≡ Some next → Reads r.end stop (drop (r.end - (k + 1)) rest) next) → elim b [ true ↦ Some none | false ↦ elim c [ true ↦ and_then inner (λ kids. option_map (field r kids) outer) | false ↦ None ] ] ≡ Some fs → Reads k stop (r ∷ rest) fs
   row_read true c t f g e = no_rows k stop (r ∷ rest) true fs t e
-  row_read false false t f g e = let z : ◌≡◌ {A = ℕ} 0 1 = cc in absurd (omega arith)
+  row_read false false t f g e = cc
   row_read false true t f g e =
       let p = read_both inner outer e in
       subst (Reads k stop (r ∷ rest)) p.4 (one_more k stop r rest p.0 p.1 (f p.0 p.2) (g p.1 p.3))

@@ -4,4 +4,4 @@
 pub mod kinds;
 pub mod laws;
 
-pub use kinds::Kind;
+pub use kinds::{Kind, NoKind};

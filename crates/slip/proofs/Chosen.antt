@@ -1,9 +1,10 @@
 -- The lists that a message has, by its header type.
 use Rattle.std.proofs.Common.{◌≡◌, ℕ, zero, suc, ◌≤◌, false, cond, ◌||◌, eqb, ◌⊎◌, List, [], refl, inl, inr, arith}
 use Rattle.std.proofs.lemmas.Bool.{ne_eqb}
+use Rattle.message.specs.Items.{rows_in}
 use Rattle.message.specs.Messages.{Columns, list_in}
 use Rattle.message.specs.Messages as messages
-use Rattle.slip.specs.Slips.{told, rows_in, Lists, columns_of, contents_of}
+use Rattle.slip.specs.Slips.{told, Lists, columns_of, contents_of}
 
 types : (n : ℕ) → (n ≡ 0) ⊎ ((n ≡ 1) ⊎ ((n ≡ 2) ⊎ ((n ≡ 3) ⊎ (4 ≤ n))))
 types zero = inl refl

@@ -2,10 +2,10 @@
 use Rattle.std.proofs.Common.{◌≡◌, ℕ, cond, ◌||◌, eqb, List, [], Some, None, Ok, Err, Option, refl, ap, ◌∙◌}
 use Rattle.little.specs.Maybe.{and_then}
 use Rattle.message.specs.declared.headers.Facts.{Facts}
-use Rattle.message.specs.Items.{nodes_in, buffers_in, counts_in}
+use Rattle.message.specs.Items.{rows_in, nodes_in, buffers_in, counts_in}
 use Rattle.message.specs.Listed.{listed}
 use Rattle.message.specs.Messages.{Columns, facts_of, rows_of, list_of, nodes_of, buffers_of, counts_of}
-use Rattle.slip.specs.Slips.{told, rows_in, Lists, columns_of, message_of, slip_lists, slip_meaning}
+use Rattle.slip.specs.Slips.{told, Lists, columns_of, message_of, slip_lists, slip_meaning}
 use Rattle.slip.specs.Chosen.{chosen_lists}
 use Rattle.slip.proofs.Chosen.{rows_chosen, list_chosen}
 

@@ -5,7 +5,7 @@ use Rattle.slip.specs.declared.parts.Parts.{Parts}
 use Rattle.slip.specs.Slips.{Lists}
 
 abbrev pub lists_in : Parts → Lists
-lists_in p = record { rows = p.rows.now; nodes = p.nodes.now; buffers = p.buffers.now; counts = p.counts.now }
+lists_in p = record { rows = p.rows.bytes.now; nodes = p.nodes.bytes.now; buffers = p.buffers.bytes.now; counts = p.counts.bytes.now }
 
 abbrev pub shown_parts : Option Parts → Option Lists
 shown_parts = option_map lists_in

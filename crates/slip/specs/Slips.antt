@@ -4,24 +4,8 @@ use Rattle.std.proofs.Common.{to_z}
 use Rattle.std.specs.Int.{w16, w64}
 use Rattle.little.specs.Maybe.{and_then}
 use Rattle.little.specs.Numbers.{number_in}
-use Rattle.message.specs.declared.rows.Row.{Row}
-use Rattle.message.specs.Items.{nodes_in, buffers_in, counts_in}
-use Rattle.message.specs.Listed.{listed}
+use Rattle.message.specs.Items.{rows_in, nodes_in, buffers_in, counts_in}
 use Rattle.message.specs.Messages.{Columns, Contents, nothing, schema, dictionary, batch, other, Message, Read}
-
--- a row of 24 bytes: kind, flag, tag and an unread byte, parameter (4), id (8, signed), end (4), 4 unread bytes
-abbrev pub row_at : List ℕ → ℕ → Row
-row_at bs at = record {
-  kind = number_in 1 bs at;
-  flag = number_in 1 bs (at + 1);
-  tag = number_in 1 bs (at + 2);
-  parameter = number_in 4 bs (at + 4);
-  id = to_z w64 (number_in 8 bs (at + 8));
-  end = number_in 4 bs (at + 16);
-}
-
-abbrev pub rows_in : List ℕ → List Row
-rows_in = listed 24 row_at
 
 -- the trailer is the last 64 bytes
 abbrev pub trailer : List ℕ → ℕ

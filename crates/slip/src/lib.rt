@@ -4,62 +4,42 @@
 ghost use Rattle.slip.specs.Slips.{slip_meaning};
 
 mod facts;
-mod numbers;
 mod parts;
-mod rows;
 mod trailers;
 
-use crate::facts::slip_facts;
-use crate::parts::{all_parts, told_parts};
-use crate::rows::{SlipRows, row_in};
-use message::items::{buffer_in, count_in, node_in};
-use message::lists::{Buffers, Counts, Nodes};
+use crate::parts::{slip, told_parts};
 use message::{Buffer, Facts, ItemList, ListSizes, Node, Reading, Refused, Row};
 
-// The reading of slips.
-#[derive(Clone, Copy)]
+/// The reading of slips.
+#[derive(Clone, Copy, Debug, Default, PartialEq, Eq, Hash)]
 pub struct Slip;
 
 impl Reading for Slip {
     ghost meaning = { λ s bytes. slip_meaning bytes };
 
     fn facts(&self, bytes: &[u8]) -> Result<Facts, Refused> {
-        match all_parts(bytes) {
-            Some(parts) => Ok(slip_facts(bytes, parts)),
-            None => Err(Refused),
-        }
+        let (trailer, parts) = slip(bytes).ok_or(Refused)?;
+        Ok(trailer.facts(parts))
     }
 
     fn row(&self, bytes: &[u8], k: usize) -> Option<Row> {
-        row_in(told_parts(bytes).rows, k)
+        told_parts(bytes).rows.get(k)
     }
 
     fn node(&self, bytes: &[u8], k: usize) -> Option<Node> {
-        node_in(told_parts(bytes).nodes, k)
+        told_parts(bytes).nodes.get(k)
     }
 
     fn buffer(&self, bytes: &[u8], k: usize) -> Option<Buffer> {
-        buffer_in(told_parts(bytes).buffers, k)
+        told_parts(bytes).buffers.get(k)
     }
 
     fn count(&self, bytes: &[u8], k: usize) -> Option<i64> {
-        count_in(told_parts(bytes).counts, k)
+        told_parts(bytes).counts.get(k)
     }
 
     fn rows(&self, bytes: &[u8], table: &mut [Row]) -> usize {
-        SlipRows(told_parts(bytes).rows).copy_to(table)
-    }
-
-    fn nodes(&self, bytes: &[u8], table: &mut [Node]) -> usize {
-        Nodes(told_parts(bytes).nodes).copy_to(table)
-    }
-
-    fn buffers(&self, bytes: &[u8], table: &mut [Buffer]) -> usize {
-        Buffers(told_parts(bytes).buffers).copy_to(table)
-    }
-
-    fn counts(&self, bytes: &[u8], table: &mut [i64]) -> usize {
-        Counts(told_parts(bytes).counts).copy_to(table)
+        told_parts(bytes).rows.copy_to(table)
     }
 
     // The parts are looked for once.
@@ -72,9 +52,9 @@ impl Reading for Slip {
     ) -> ListSizes {
         let parts = told_parts(bytes);
         ListSizes {
-            nodes: Nodes(parts.nodes).copy_to(nodes),
-            buffers: Buffers(parts.buffers).copy_to(buffers),
-            counts: Counts(parts.counts).copy_to(counts),
+            nodes: parts.nodes.copy_to(nodes),
+            buffers: parts.buffers.copy_to(buffers),
+            counts: parts.counts.copy_to(counts),
         }
     }
 }

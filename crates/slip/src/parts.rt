@@ -1,108 +1,99 @@
 // The four lists of a slip, as the parts of the bytes that they fill.
-ghost use Rattle.std.specs.Prelude.{◌≡◌, ◌+◌, ◌≤◌, length};
-ghost use Rattle.message.specs.Items.{nodes_in, buffers_in, counts_in};
+ghost use Rattle.std.specs.Prelude.{◌≡◌, ◌+◌, ◌≤◌, IfSome};
+ghost use Rattle.std.specs.Option.{option_map};
+ghost use Rattle.message.specs.Items.{rows_in, nodes_in, buffers_in, counts_in};
 ghost use Rattle.message.specs.Messages.{rows_of, nodes_of, buffers_of, counts_of};
-ghost use Rattle.slip.specs.Slips.{rows_in, list_at, slip_lists, slip_meaning};
+ghost use Rattle.slip.specs.Slips.{list_at, lists_of, slip_lists, slip_meaning};
 ghost use Rattle.slip.specs.Chosen.{chosen_lists};
 ghost use Rattle.slip.specs.Shown.{lists_in, shown_parts};
-ghost use Rattle.message.specs.Shown.{shown_part};
 
-use crate::numbers::{u8_in, u32_in};
-use crate::trailers::{
-    BUFFER, BUFFERS, COUNT, COUNTS, KIND, NODE, NODES, ROW, ROWS, TRAILER, is_slip,
-};
+use crate::trailers::{BUFFERS, COUNTS, KIND, NODES, ROWS, TRAILER, Trailer};
+use little::Little;
+use message::{Buffer, Items, Node, Row};
 
 // A part for each list.
-#[derive(Clone, Copy)]
+#[derive(Clone, Copy, Default)]
 pub(crate) struct Parts<'a> {
-    pub(crate) rows: &'a [u8],
-    pub(crate) nodes: &'a [u8],
-    pub(crate) buffers: &'a [u8],
-    pub(crate) counts: &'a [u8],
+    pub(crate) rows: Items<'a, Row>,
+    pub(crate) nodes: Items<'a, Node>,
+    pub(crate) buffers: Items<'a, Buffer>,
+    pub(crate) counts: Items<'a, i64>,
 }
 
-// The list of which the trailer tells at a place: a count of items, and how far before the trailer they begin.
-fn list_at(bytes: &[u8], at: usize, width: usize) -> Option<&[u8]>
-    requires { (64 ≤ length bytes.now) × ((at + 8 ≤ 64) × (width ≤ 24)) }
-    ensures { shown_part result ≡ list_at width bytes.now at }
-{
-    let trailer = bytes.len() - TRAILER;
-    let count = u32_in(bytes, trailer + at) as usize;
-    let back = u32_in(bytes, trailer + at + 4) as usize;
-    let size = count * width;
-    if count == 0 {
-        Some(&bytes[..0])
-    } else if back <= trailer && size <= back {
-        let start = trailer - back;
-        Some(&bytes[start..start + size])
-    } else {
-        None
+impl<'a> Trailer<'a> {
+    // The list of which the trailer tells at a place: a count of items, and how far before the trailer they begin.
+    fn list<T: Little>(self, at: usize) -> Option<Items<'a, T>>
+        requires place { at + 8 ≤ 64 }
+        requires width { T.WIDTH ≤ 24 }
+        ensures { option_map (λ i. i.bytes.now) result ≡ list_at T.WIDTH self.entry.bytes.now at }
+    {
+        let trailer = self.bytes.len() - TRAILER;
+        let count = self.told::<u32>(at) as usize;
+        let back = self.told::<u32>(at + 4) as usize;
+        let size = count * T::WIDTH;
+        if count == 0 {
+            Some(Items::new(&self.bytes[..0]))
+        } else if back <= trailer && size <= back {
+            let start = trailer - back;
+            Some(Items::new(&self.bytes[start..start + size]))
+        } else {
+            None
+        }
+    }
+
+    // All four lists, whatever the header type.
+    pub(crate) fn parts(self) -> Option<Parts<'a>>
+        ensures { shown_parts result ≡ lists_of self.entry.bytes.now }
+    {
+        Some(Parts {
+            rows: self.list(ROWS)?,
+            nodes: self.list(NODES)?,
+            buffers: self.list(BUFFERS)?,
+            counts: self.list(COUNTS)?,
+        })
     }
 }
 
-// All four lists, whatever the header type.
-pub(crate) fn all_parts(bytes: &[u8]) -> Option<Parts<'_>>
-    ensures { shown_parts result ≡ slip_lists bytes.now }
-{
-    if !is_slip(bytes) {
-        return None;
+impl<'a> Parts<'a> {
+    // Of the lists those that a message of a header type has.
+    fn chosen(self, kind: u8) -> Parts<'a>
+        ensures { lists_in result ≡ chosen_lists kind (lists_in self.entry) }
+    {
+        let none = Parts::default();
+        match kind {
+            1 => Parts {
+                rows: self.rows,
+                ..none
+            },
+            2 | 3 => Parts {
+                rows: none.rows,
+                ..self
+            },
+            _ => none,
+        }
     }
-    let rows = list_at(bytes, ROWS, ROW)?;
-    let nodes = list_at(bytes, NODES, NODE)?;
-    let buffers = list_at(bytes, BUFFERS, BUFFER)?;
-    let counts = list_at(bytes, COUNTS, COUNT)?;
-    Some(Parts {
-        rows,
-        nodes,
-        buffers,
-        counts,
-    })
 }
 
-// Of the lists those that a message of a header type has.
-fn chosen(parts: Parts<'_>, kind: u8) -> Parts<'_>
-    ensures { lists_in result ≡ chosen_lists kind (lists_in parts.entry) }
+// A slip by its trailer and its lists.
+#[tactic(auto, unfolding(crate::specs::Slips::slip_lists))]
+pub(crate) fn slip(bytes: &[u8]) -> Option<(Trailer<'_>, Parts<'_>)>
+    ensures lists { option_map (λ p. lists_in p.1) result ≡ slip_lists bytes.now }
+    ensures bytes { IfSome result (λ p. p.0.bytes.now ≡ bytes.now) }
 {
-    let none = &parts.rows[..0];
-    match kind {
-        1 => Parts {
-            rows: parts.rows,
-            nodes: none,
-            buffers: none,
-            counts: none,
-        },
-        2 | 3 => Parts {
-            rows: none,
-            nodes: parts.nodes,
-            buffers: parts.buffers,
-            counts: parts.counts,
-        },
-        _ => Parts {
-            rows: none,
-            nodes: none,
-            buffers: none,
-            counts: none,
-        },
-    }
+    let trailer = Trailer::of(bytes)?;
+    let parts = trailer.parts()?;
+    Some((trailer, parts))
 }
 
 // The lists of the message, which are empty where it has none.
 pub(crate) fn told_parts(bytes: &[u8]) -> Parts<'_>
-    ensures rows { rows_in result.rows.now ≡ rows_of (slip_meaning bytes.now) }
-    ensures nodes { nodes_in result.nodes.now ≡ nodes_of (slip_meaning bytes.now) }
-    ensures buffers { buffers_in result.buffers.now ≡ buffers_of (slip_meaning bytes.now) }
-    ensures counts { counts_in result.counts.now ≡ counts_of (slip_meaning bytes.now) }
+    ensures rows { rows_in result.rows.bytes.now ≡ rows_of (slip_meaning bytes.now) }
+    ensures nodes { nodes_in result.nodes.bytes.now ≡ nodes_of (slip_meaning bytes.now) }
+    ensures buffers { buffers_in result.buffers.bytes.now ≡ buffers_of (slip_meaning bytes.now) }
+    ensures counts { counts_in result.counts.bytes.now ≡ counts_of (slip_meaning bytes.now) }
 {
-    match all_parts(bytes) {
-        Some(parts) => chosen(parts, u8_in(bytes, bytes.len() - TRAILER + KIND)),
-        None => {
-            let none = &bytes[..0];
-            Parts {
-                rows: none,
-                nodes: none,
-                buffers: none,
-                counts: none,
-            }
-        }
+    match slip(bytes) {
+        Some((trailer, parts)) => parts.chosen(trailer.told(KIND)),
+        None => Parts::default(),
     }
 }

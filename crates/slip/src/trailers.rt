@@ -1,8 +1,8 @@
 // The trailer of a slip.
-ghost use Rattle.std.specs.Prelude.{◌≡◌};
-ghost use Rattle.slip.specs.Slips.{slip};
+ghost use Rattle.std.specs.Prelude.{◌≡◌, ◌+◌, ◌≤◌, true, false, length, MatchOption};
+ghost use Rattle.slip.specs.Slips.{slip, trailer};
 
-use crate::numbers::{u8_in, u32_in};
+use little::Little;
 
 // The bytes of a trailer.
 pub(crate) const TRAILER: usize = 64;
@@ -30,25 +30,37 @@ pub(crate) const COUNTS: usize = 52;
 
 const MARKER: usize = 60;
 
-// The bytes of an item of each list.
-pub(crate) const ROW: usize = 24;
-
-pub(crate) const NODE: usize = 16;
-
-pub(crate) const BUFFER: usize = 16;
-
-pub(crate) const COUNT: usize = 8;
-
 // The ASCII bytes SLP1, as a number.
 const SLP1: u32 = 0x3150_4c53;
 
-// Whether bytes end in the trailer of a slip.
-pub(crate) fn is_slip(bytes: &[u8]) -> bool
-    ensures { result ≡ slip bytes.now }
-{
-    if bytes.len() < TRAILER {
-        return false;
+// Bytes that have a trailer: their last 64.
+#[derive(Clone, Copy)]
+pub(crate) struct Trailer<'a> {
+    pub(crate) bytes: &'a [u8],
+    ghost long: { 64 ≤ length bytes.now },
+}
+
+impl<'a> Trailer<'a> {
+    // The trailer of bytes that are a slip.
+    pub(crate) fn of(bytes: &'a [u8]) -> Option<Trailer<'a>>
+        ensures { MatchOption result (slip bytes.now ≡ false) (λ t. (t.bytes.now ≡ bytes.now) × (slip bytes.now ≡ true)) }
+    {
+        if bytes.len() < TRAILER {
+            return None;
+        }
+        let trailer = Trailer { bytes };
+        if trailer.told::<u32>(MARKER) == SLP1 && trailer.told::<u8>(DELTA) <= 1 {
+            Some(trailer)
+        } else {
+            None
+        }
     }
-    let trailer = bytes.len() - TRAILER;
-    u32_in(bytes, trailer + MARKER) == SLP1 && u8_in(bytes, trailer + DELTA) <= 1
+
+    // A number, by its place in the trailer.
+    pub(crate) fn told<T: Little>(self, at: usize) -> T
+        requires { at + T.WIDTH ≤ 64 }
+        ensures { result ≡ T.number self.entry.bytes.now (trailer self.entry.bytes.now + at) }
+    {
+        T::read_at(self.bytes, self.bytes.len() - TRAILER + at).unwrap()
+    }
 }

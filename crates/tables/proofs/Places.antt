@@ -23,10 +23,13 @@ module _ (bs : List ℕ) (p : ℕ) where
     unfolding vector_at
     by_length = ap (λ o. and_then o (λ n. elim (nat_le (p + 4 + n * width) (length bs)) [ true ↦ Some (take (n * width) (drop (p + 4) bs)) | false ↦ None ])) (sym e)
 
+    pub long : length bs < p + 4 + n * width → vector_at width bs p ≡ None
+    long h = by_length ∙ rw (lt-leb (p + 4 + n * width) (length bs) h)
+
     pub cut : (items : List ℕ) (r : Option (Bor (List ℕ))) → items ≡ drop (p + 4) bs → p + 4 ≤ length bs → IsGetRangeResult items 0 (n * width) r → option_map (λ x. x.now) r ≡ vector_at width bs p
     cut items None i l g =
         let h : length bs < p + 4 + n * width = omega (arith, g, ap length i, length-drop (p + 4) bs) in
-        sym (by_length ∙ rw (lt-leb (p + 4 + n * width) (length bs) h))
+        sym (long h)
     cut items (Some x) i l g =
         let h : p + 4 + n * width ≤ length bs = omega (arith, g, ap length i, length-drop (p + 4) bs) in
         let all : n * width - 0 ≡ n * width = omega arith in

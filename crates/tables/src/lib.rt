@@ -159,10 +159,10 @@ pub fn item(bytes: &[u8], at: usize, k: u32) -> Option<usize>
 
 /// The items of a vector, `width` bytes each.
 #[tactic(auto, unfolding(crate::specs::Tables::vector_at))]
-pub fn vector(bytes: &[u8], at: usize, width: u8) -> Option<&[u8]>
+pub fn vector(bytes: &[u8], at: usize, width: usize) -> Option<&[u8]>
     ensures { option_map (λ p. p.now) result ≡ vector_at width bytes.now at }
 {
     let count = u32::read_at(bytes, at)?;
     let items = bytes.get(at..)?.get(4..)?;
-    items.get(..count as usize * width as usize)
+    items.get(..(count as usize).checked_mul(width)?)
 }

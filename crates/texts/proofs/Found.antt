@@ -1,13 +1,11 @@
 -- UTF-8 is characters one behind the other.
-use Rattle.std.proofs.Common.{◌≡◌, ℕ, zero, suc, ◌+◌, ◌-◌, ◌*◌, ◌<◌, ◌≤◌, Bool, true, false, ◌&&◌, ◌||◌, eqb, leb, List, [], ◌∷◌, ◌++◌, length, sym, refl, ap, ◌∙◌, arith}
-use Rattle.std.proofs.lemmas.Bool.{and_from, and_parts, or_left, or_right, leb-true, le-leb, eqb-true}
+use Rattle.std.proofs.Common.{◌≡◌, ℕ, zero, suc, ◌+◌, ◌-◌, ◌*◌, ◌<◌, ◌≤◌, Bool, true, false, ◌&&◌, ◌||◌, leb, List, [], ◌∷◌, ◌++◌, length, sym, refl, ap, ◌∙◌, arith}
+use Rattle.std.proofs.lemmas.Bool.{and_from, and_parts, leb-true, le-leb}
+use Rattle.std.proofs.lemmas.Bool.Decides.{nat_tests}
 use Rattle.texts.specs.Utf8.{within, tail, second3, second4, well_formed, after2, after3, after4}
 use Rattle.texts.specs.Characters.{Character, one, two, three, four, bytes, number, proper, Text}
 use Rattle.texts.proofs.Leads.{lead1}
-use Rattle.texts.proofs.Spelled.{either, within_has, within_tells}
-
-no : (P : Type 0) → ◌≡◌ {A = Bool} false true → P
-no P e = absurd (let y : ◌≡◌ {A = ℕ} 0 1 = cc in omega arith)
+use Rattle.texts.proofs.Spelled.{within_has, within_tells}
 
 back : (k a : ℕ) → k ≤ a → k + (a - k) ≡ a
 back k a h = omega arith
@@ -25,25 +23,18 @@ one_begins : (a : ℕ) (r : List ℕ) → leb a 0x7f ≡ true → well_formed (a
 one_begins a r e w = record { first = one a; rest = r; sound = e; split = refl; shorter = omega arith; well = sym (lead1 a r (leb-true a 0x7f e)) ∙ w }
 
 two_at : (a b : ℕ) (r : List ℕ) (t : Bool) → tail b ≡ t → within 0xc2 0xdf a ≡ true → elim t [ true ↦ well_formed r | false ↦ false ] ≡ true → Begins (a ∷ b ∷ r)
-two_at a b r false k e w = no _ w
-two_at a b r true k e w =
-    let p = within_tells 0xc2 0xdf a e in
-    let al = p.0 in
-    let ah = p.1 in
-    let q = within_tells 0x80 0xbf b k in
-    let bl = q.0 in
-    let bh = q.1 in
-    record {
-      first = two (a - 0xc0) (b - 0x80);
-      rest = r;
-      sound = and_from _ _ (le-leb (b - 0x80) 63 (omega (arith, bh))) (within_has 0x80 0x7ff (number (two (a - 0xc0) (b - 0x80))) (omega (arith, al)) (omega (arith, ah, bh)));
-      split = ap (λ n. n ∷ (0x80 + (b - 0x80)) ∷ r) (back 0xc0 a (omega (arith, al))) ∙ ap (λ n. a ∷ n ∷ r) (back 0x80 b bl);
-      shorter = omega arith;
-      well = w;
-    }
+two_at a b r false k e w = cc
+two_at a b r true k e w = record {
+  first = two (a - 0xc0) (b - 0x80);
+  rest = r;
+  sound = grind (arith, nat_tests);
+  split = ap (λ n. n ∷ (0x80 + (b - 0x80)) ∷ r) (back 0xc0 a (grind (arith, nat_tests))) ∙ ap (λ n. a ∷ n ∷ r) (back 0x80 b (grind (arith, nat_tests)));
+  shorter = omega arith;
+  well = w;
+}
 
 two_begins : (a : ℕ) (r : List ℕ) → within 0xc2 0xdf a ≡ true → after2 r ≡ true → Begins (a ∷ r)
-two_begins a [] e w = no _ w
+two_begins a [] e w = cc
 two_begins a (b ∷ r) e w = two_at a b r (tail b) refl e w
 
 -- the bounds of a second byte under its lead byte, and that the number is no surrogate
@@ -53,81 +44,30 @@ pub record Second3 (a b c : ℕ) : Type 0 where
   pub most : b ≤ 0xbf
   pub scalar : within 0x800 0xd7ff (number (three (a - 0xe0) (b - 0x80) (c - 0x80))) || within 0xe000 0xffff (number (three (a - 0xe0) (b - 0x80) (c - 0x80))) ≡ true
 
-low3 : (a b c : ℕ) → 0xe0 ≤ a → 0x80 ≤ b → b ≤ 0xbf → 0x800 ≤ number (three (a - 0xe0) (b - 0x80) (c - 0x80)) → number (three (a - 0xe0) (b - 0x80) (c - 0x80)) ≤ 0xd7ff → Second3 a b c
-low3 a b c al bl bh lo hi =
-    let n = number (three (a - 0xe0) (b - 0x80) (c - 0x80)) in
-    record { lead = al; least = bl; most = bh; scalar = or_left (within 0x800 0xd7ff n) (within 0xe000 0xffff n) (within_has 0x800 0xd7ff n lo hi) }
-
-case_e0 : (a b c : ℕ) → 0x80 ≤ c → c ≤ 0xbf → eqb a 0xe0 && within 0xa0 0xbf b ≡ true → Second3 a b c
-case_e0 a b c cl ch e =
-    let p = and_parts (eqb a 0xe0) (within 0xa0 0xbf b) e in
-    let q = eqb-true a 0xe0 p.0 in
-    let s = within_tells 0xa0 0xbf b p.1 in
-    let bl = s.0 in
-    let bh = s.1 in
-    low3 a b c (omega (arith, q)) (omega (arith, bl)) bh (omega (arith, q, bl, cl)) (omega (arith, q, bh, ch))
-
-case_mid : (a b c : ℕ) → 0x80 ≤ c → c ≤ 0xbf → within 0xe1 0xec a && tail b ≡ true → Second3 a b c
-case_mid a b c cl ch e =
-    let p = and_parts (within 0xe1 0xec a) (tail b) e in
-    let q = within_tells 0xe1 0xec a p.0 in
-    let al = q.0 in
-    let ah = q.1 in
-    let s = within_tells 0x80 0xbf b p.1 in
-    let bl = s.0 in
-    let bh = s.1 in
-    low3 a b c (omega (arith, al)) bl bh (omega (arith, al, bl, cl)) (omega (arith, ah, bh, ch))
-
-case_ed : (a b c : ℕ) → 0x80 ≤ c → c ≤ 0xbf → eqb a 0xed && within 0x80 0x9f b ≡ true → Second3 a b c
-case_ed a b c cl ch e =
-    let p = and_parts (eqb a 0xed) (within 0x80 0x9f b) e in
-    let q = eqb-true a 0xed p.0 in
-    let s = within_tells 0x80 0x9f b p.1 in
-    let bl = s.0 in
-    let bh = s.1 in
-    low3 a b c (omega (arith, q)) bl (omega (arith, bh)) (omega (arith, q, bl, cl)) (omega (arith, q, bh, ch))
-
-case_high : (a b c : ℕ) → 0x80 ≤ c → c ≤ 0xbf → within 0xee 0xef a && tail b ≡ true → Second3 a b c
-case_high a b c cl ch e =
-    let n = number (three (a - 0xe0) (b - 0x80) (c - 0x80)) in
-    let p = and_parts (within 0xee 0xef a) (tail b) e in
-    let q = within_tells 0xee 0xef a p.0 in
-    let al = q.0 in
-    let ah = q.1 in
-    let s = within_tells 0x80 0xbf b p.1 in
-    let bl = s.0 in
-    let bh = s.1 in
-    record { lead = omega (arith, al); least = bl; most = bh; scalar = or_right (within 0x800 0xd7ff n) (within 0xe000 0xffff n) (within_has 0xe000 0xffff n (omega (arith, al, bl, cl)) (omega (arith, ah, bh, ch))) }
-
 second3_tells : (a b c : ℕ) → 0x80 ≤ c → c ≤ 0xbf → second3 a b ≡ true → Second3 a b c
-second3_tells a b c cl ch e =
-    let P = Second3 a b c in
-    either P _ _ (case_e0 a b c cl ch) (λ f. either P _ _ (case_mid a b c cl ch) (λ g. either P _ _ (case_ed a b c cl ch) (case_high a b c cl ch) g) f) e
+second3_tells a b c cl ch e = record { lead = grind (arith, nat_tests); least = grind (arith, nat_tests); most = grind (arith, nat_tests); scalar = grind (arith, nat_tests) }
 
 three_at : (a b c : ℕ) (r : List ℕ) (t : Bool) → second3 a b && tail c ≡ t → elim t [ true ↦ well_formed r | false ↦ false ] ≡ true → Begins (a ∷ b ∷ c ∷ r)
-three_at a b c r false k w = no _ w
+three_at a b c r false k w = cc
 three_at a b c r true k w =
     let p = and_parts (second3 a b) (tail c) k in
     let q = within_tells 0x80 0xbf c p.1 in
-    let cl = q.0 in
-    let ch = q.1 in
-    let s = second3_tells a b c cl ch p.0 in
-    let bh = s.most in
+    let s = second3_tells a b c q.0 q.1 p.0 in
     record {
       first = three (a - 0xe0) (b - 0x80) (c - 0x80);
       rest = r;
-      sound = and_from _ _ (le-leb (b - 0x80) 63 (omega (arith, bh))) (and_from _ _ (le-leb (c - 0x80) 63 (omega (arith, ch))) s.scalar);
+      sound = and_from _ _ (le-leb (b - 0x80) 63 (omega (arith, s.most))) (and_from _ _ (le-leb (c - 0x80) 63 (omega (arith, q.1))) s.scalar);
       split =
           ap (λ n. n ∷ (0x80 + (b - 0x80)) ∷ (0x80 + (c - 0x80)) ∷ r) (back 0xe0 a s.lead)
           ∙ ap (λ n. a ∷ n ∷ (0x80 + (c - 0x80)) ∷ r) (back 0x80 b s.least)
-          ∙ ap (λ n. a ∷ b ∷ n ∷ r) (back 0x80 c cl);
+          ∙ ap (λ n. a ∷ b ∷ n ∷ r) (back 0x80 c q.0);
       shorter = omega arith;
       well = w;
     }
 
 three_begins : (a : ℕ) (r : List ℕ) → after3 a r ≡ true → Begins (a ∷ r)
-three_begins a [] w = no _ w
-three_begins a (b ∷ []) w = no _ w
+three_begins a [] w = cc
+three_begins a (b ∷ []) w = cc
 three_begins a (b ∷ c ∷ r) w = three_at a b c r (second3 a b && tail c) refl w
 
 -- the bounds of lead and second byte, in one: at least F0 90, at most F4 8F
@@ -138,77 +78,41 @@ pub record Second4 (a b : ℕ) : Type 0 where
   pub low : 16 ≤ 64 * (a - 0xf0) + (b - 0x80)
   pub high : 64 * (a - 0xf0) + (b - 0x80) ≤ 271
 
-case_f0 : (a b : ℕ) → eqb a 0xf0 && within 0x90 0xbf b ≡ true → Second4 a b
-case_f0 a b e =
-    let p = and_parts (eqb a 0xf0) (within 0x90 0xbf b) e in
-    let q = eqb-true a 0xf0 p.0 in
-    let s = within_tells 0x90 0xbf b p.1 in
-    let bl = s.0 in
-    let bh = s.1 in
-    record { lead = omega (arith, q); least = omega (arith, bl); most = bh; low = omega (arith, q, bl); high = omega (arith, q, bh) }
-
-case_f1 : (a b : ℕ) → within 0xf1 0xf3 a && tail b ≡ true → Second4 a b
-case_f1 a b e =
-    let p = and_parts (within 0xf1 0xf3 a) (tail b) e in
-    let q = within_tells 0xf1 0xf3 a p.0 in
-    let al = q.0 in
-    let ah = q.1 in
-    let s = within_tells 0x80 0xbf b p.1 in
-    let bl = s.0 in
-    let bh = s.1 in
-    record { lead = omega (arith, al); least = bl; most = bh; low = omega (arith, al, bl); high = omega (arith, ah, bh) }
-
-case_f4 : (a b : ℕ) → eqb a 0xf4 && within 0x80 0x8f b ≡ true → Second4 a b
-case_f4 a b e =
-    let p = and_parts (eqb a 0xf4) (within 0x80 0x8f b) e in
-    let q = eqb-true a 0xf4 p.0 in
-    let s = within_tells 0x80 0x8f b p.1 in
-    let bl = s.0 in
-    let bh = s.1 in
-    record { lead = omega (arith, q); least = bl; most = omega (arith, bh); low = omega (arith, q, bl); high = omega (arith, q, bh) }
-
 second4_tells : (a b : ℕ) → second4 a b ≡ true → Second4 a b
-second4_tells a b e = either (Second4 a b) _ _ (case_f0 a b) (λ f. either (Second4 a b) _ _ (case_f1 a b) (case_f4 a b) f) e
+second4_tells a b e = record { lead = grind (arith, nat_tests); least = grind (arith, nat_tests); most = grind (arith, nat_tests); low = grind (arith, nat_tests); high = grind (arith, nat_tests) }
 
 four_at : (a b c d : ℕ) (r : List ℕ) (t : Bool) → second4 a b && (tail c && tail d) ≡ t → elim t [ true ↦ well_formed r | false ↦ false ] ≡ true → Begins (a ∷ b ∷ c ∷ d ∷ r)
-four_at a b c d r false k w = no _ w
+four_at a b c d r false k w = cc
 four_at a b c d r true k w =
     let p = and_parts (second4 a b) (tail c && tail d) k in
     let q = and_parts (tail c) (tail d) p.1 in
     let cs = within_tells 0x80 0xbf c q.0 in
     let ds = within_tells 0x80 0xbf d q.1 in
-    let cl = cs.0 in
-    let ch = cs.1 in
-    let dl = ds.0 in
-    let dh = ds.1 in
     let s = second4_tells a b p.0 in
-    let bh = s.most in
-    let lo = s.low in
-    let hi = s.high in
     let n = number (four (a - 0xf0) (b - 0x80) (c - 0x80) (d - 0x80)) in
     record {
       first = four (a - 0xf0) (b - 0x80) (c - 0x80) (d - 0x80);
       rest = r;
-      sound = and_from _ _ (le-leb (b - 0x80) 63 (omega (arith, bh))) (and_from _ _ (le-leb (c - 0x80) 63 (omega (arith, ch))) (and_from _ _ (le-leb (d - 0x80) 63 (omega (arith, dh))) (within_has 0x10000 0x10ffff n (omega (arith, lo)) (omega (arith, hi, ch, dh)))));
+      sound = and_from _ _ (le-leb (b - 0x80) 63 (omega (arith, s.most))) (and_from _ _ (le-leb (c - 0x80) 63 (omega (arith, cs.1))) (and_from _ _ (le-leb (d - 0x80) 63 (omega (arith, ds.1))) (within_has 0x10000 0x10ffff n (omega (arith, s.low)) (omega (arith, s.high, cs.1, ds.1)))));
       split =
           ap (λ n. n ∷ (0x80 + (b - 0x80)) ∷ (0x80 + (c - 0x80)) ∷ (0x80 + (d - 0x80)) ∷ r) (back 0xf0 a s.lead)
           ∙ ap (λ n. a ∷ n ∷ (0x80 + (c - 0x80)) ∷ (0x80 + (d - 0x80)) ∷ r) (back 0x80 b s.least)
-          ∙ ap (λ n. a ∷ b ∷ n ∷ (0x80 + (d - 0x80)) ∷ r) (back 0x80 c cl)
-          ∙ ap (λ n. a ∷ b ∷ c ∷ n ∷ r) (back 0x80 d dl);
+          ∙ ap (λ n. a ∷ b ∷ n ∷ (0x80 + (d - 0x80)) ∷ r) (back 0x80 c cs.0)
+          ∙ ap (λ n. a ∷ b ∷ c ∷ n ∷ r) (back 0x80 d ds.0);
       shorter = omega arith;
       well = w;
     }
 
 four_begins : (a : ℕ) (r : List ℕ) → after4 a r ≡ true → Begins (a ∷ r)
-four_begins a [] w = no _ w
-four_begins a (b ∷ []) w = no _ w
-four_begins a (b ∷ c ∷ []) w = no _ w
+four_begins a [] w = cc
+four_begins a (b ∷ []) w = cc
+four_begins a (b ∷ c ∷ []) w = cc
 four_begins a (b ∷ c ∷ d ∷ r) w = four_at a b c d r (second4 a b && (tail c && tail d)) refl w
 
 -- by the lead byte
 by4 : (a : ℕ) (r : List ℕ) (t : Bool) → elim t [ true ↦ after4 a r | false ↦ false ] ≡ true → Begins (a ∷ r)
 by4 a r true w = four_begins a r w
-by4 a r false w = no _ w
+by4 a r false w = cc
 
 by3 : (a : ℕ) (r : List ℕ) (t : Bool) → elim t [ true ↦ after3 a r | false ↦ elim (within 0xf0 0xf4 a) [ true ↦ after4 a r | false ↦ false ] ] ≡ true → Begins (a ∷ r)
 by3 a r true w = three_begins a r w

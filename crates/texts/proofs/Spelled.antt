@@ -1,5 +1,5 @@
 -- Characters one behind the other are UTF-8.
-use Rattle.std.proofs.Common.{◌≡◌, ℕ, ◌+◌, ◌*◌, ◌≤◌, Bool, true, false, ◌&&◌, ◌||◌, leb, List, [], ◌∷◌, ◌++◌, sym, refl, ap, ◌∙◌, arith}
+use Rattle.std.proofs.Common.{◌≡◌, ℕ, ◌+◌, ◌*◌, ◌≤◌, true, leb, List, [], ◌∷◌, ◌++◌, sym, refl, ap, ◌∙◌, arith}
 use Rattle.std.proofs.lemmas.Bool.{and_parts, leb-true, le-leb}
 use Rattle.std.proofs.lemmas.Bool.Decides.{nat_tests}
 use Rattle.texts.specs.Utf8.{within, tail, second3, second4, well_formed}
@@ -20,10 +20,6 @@ second4_has a b al ah bl bh first last = grind (arith, nat_tests)
 
 tail_has : (y : ℕ) → y ≤ 63 → tail (0x80 + y) ≡ true
 tail_has y h = within_has 0x80 0xbf (0x80 + y) (omega arith) (omega arith)
-
-pub either : (P : Type 0) (a b : Bool) → (a ≡ true → P) → (b ≡ true → P) → a || b ≡ true → P
-either P true b f g e = f refl
-either P false b f g e = g e
 
 two_read : (x y : ℕ) (r : List ℕ) → y ≤ 63 → 0x80 ≤ 64 * x + y → 64 * x + y ≤ 0x7ff → well_formed (bytes (two x y) ++ r) ≡ well_formed r
 two_read x y r h lo hi = lead2 (0xc0 + x) ((0x80 + y) ∷ r) (omega arith) (omega arith) ∙ past2 (0x80 + y) r (tail_has y h)
@@ -46,27 +42,9 @@ four_read x y z w r hy hz hw lo hi =
 -- a proper character at the front leaves the question to what follows
 read : (c : Character) (r : List ℕ) → proper c ≡ true → well_formed (bytes c ++ r) ≡ well_formed r
 read (one x) r e = lead1 x r (leb-true x 0x7f e)
-read (two x y) r e =
-    let p = and_parts (leb y 63) (within 0x80 0x7ff (number (two x y))) e in
-    let n = within_tells 0x80 0x7ff (number (two x y)) p.1 in
-    two_read x y r (leb-true y 63 p.0) n.0 n.1
-read (three x y z) r e =
-    let n = number (three x y z) in
-    let p = and_parts (leb y 63) (leb z 63 && (within 0x800 0xd7ff n || within 0xe000 0xffff n)) e in
-    let q = and_parts (leb z 63) (within 0x800 0xd7ff n || within 0xe000 0xffff n) p.1 in
-    let hy = leb-true y 63 p.0 in
-    let hz = leb-true z 63 q.0 in
-    either (well_formed (bytes (three x y z) ++ r) ≡ well_formed r) (within 0x800 0xd7ff n) (within 0xe000 0xffff n)
-    (λ k. let b = within_tells 0x800 0xd7ff n k in let b0 = b.0 in let b1 = b.1 in three_read x y z r hy hz b0 (omega (arith, b1)) (λ i. omega (arith, b1, i)))
-    (λ k. let b = within_tells 0xe000 0xffff n k in let b0 = b.0 in let b1 = b.1 in three_read x y z r hy hz (omega (arith, b0)) b1 (λ i. omega (arith, b0, hy, hz, i)))
-    q.1
-read (four x y z w) r e =
-    let n = number (four x y z w) in
-    let p = and_parts (leb y 63) (leb z 63 && (leb w 63 && within 0x10000 0x10ffff n)) e in
-    let q = and_parts (leb z 63) (leb w 63 && within 0x10000 0x10ffff n) p.1 in
-    let s = and_parts (leb w 63) (within 0x10000 0x10ffff n) q.1 in
-    let b = within_tells 0x10000 0x10ffff n s.1 in
-    four_read x y z w r (leb-true y 63 p.0) (leb-true z 63 q.0) (leb-true w 63 s.0) b.0 b.1
+read (two x y) r e = two_read x y r (grind (arith, nat_tests)) (grind (arith, nat_tests)) (grind (arith, nat_tests))
+read (three x y z) r e = three_read x y z r (grind (arith, nat_tests)) (grind (arith, nat_tests)) (grind (arith, nat_tests)) (grind (arith, nat_tests)) (grind (arith, nat_tests))
+read (four x y z w) r e = four_read x y z w r (grind (arith, nat_tests)) (grind (arith, nat_tests)) (grind (arith, nat_tests)) (grind (arith, nat_tests)) (grind (arith, nat_tests))
 
 pub all_read : (cs : List Character) → all_proper cs ≡ true → well_formed (spelling cs) ≡ true
 all_read [] e = refl

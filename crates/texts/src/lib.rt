@@ -3,8 +3,8 @@
 
 pub mod laws;
 
-ghost use Rattle.std.specs.Prelude.{◌≡◌, ◌<◌, ◌≤◌, true, false, length, MatchOption};
-ghost use Rattle.texts.specs.Utf8.{well_formed, tail, second3, second4, after2, after3, after4};
+ghost use Rattle.std.specs.Prelude.{◌≡◌, ◌≤◌, false, ◌∷◌, length, MatchOption};
+ghost use Rattle.texts.specs.Utf8.{well_formed, tail, second3, second4};
 
 // A byte that goes on with a character.
 fn is_tail(b: u8) -> bool
@@ -37,46 +37,18 @@ fn is_second4(a: u8, b: u8) -> bool
     }
 }
 
-// What is left behind the last byte of a character of two bytes, whose lead byte was read.
-fn past_two(text: &[u8]) -> Option<&[u8]>
-    ensures { MatchOption result (after2 text.now ≡ false) (λ s. (length s.now ≤ length text.now) × (after2 text.now ≡ well_formed s.now)) }
+// What is left behind the character that a lead byte and what follows it open with. The lead byte is matched first: one
+// pattern for all the bytes is slower, since it tests how many there are before it looks at one.
+#[tactic(auto, using(crate::proofs::Shapes::behind_three, crate::proofs::Shapes::behind_four))]
+fn past_char(lead: u8, more: &[u8]) -> Option<&[u8]>
+    ensures { MatchOption result (well_formed (lead ∷ more.now) ≡ false) (λ s. (length s.now ≤ length more.now) × (well_formed (lead ∷ more.now) ≡ well_formed s.now)) }
 {
-    match text {
-        [b, rest @ ..] if is_tail(*b) => Some(rest),
-        _ => None,
-    }
-}
-
-// The same for three bytes.
-fn past_three(lead: u8, text: &[u8]) -> Option<&[u8]>
-    ensures { MatchOption result (after3 lead text.now ≡ false) (λ s. (length s.now ≤ length text.now) × (after3 lead text.now ≡ well_formed s.now)) }
-{
-    match text {
-        [b, c, rest @ ..] if is_second3(lead, *b) && is_tail(*c) => Some(rest),
-        _ => None,
-    }
-}
-
-// The same for four bytes.
-fn past_four(lead: u8, text: &[u8]) -> Option<&[u8]>
-    ensures { MatchOption result (after4 lead text.now ≡ false) (λ s. (length s.now ≤ length text.now) × (after4 lead text.now ≡ well_formed s.now)) }
-{
-    match text {
-        [b, c, d, rest @ ..] if is_second4(lead, *b) && is_tail(*c) && is_tail(*d) => Some(rest),
-        _ => None,
-    }
-}
-
-// What is left behind the character that the bytes open with.
-fn past_char(text: &[u8]) -> Option<&[u8]>
-    requires { 0 < length text.now }
-    ensures { MatchOption result (well_formed text.now ≡ false) (λ s. (length s.now < length text.now) × (well_formed text.now ≡ well_formed s.now)) }
-{
-    match text {
-        [0x00..=0x7f, rest @ ..] => Some(rest),
-        [0xc2..=0xdf, more @ ..] => past_two(more),
-        [lead @ 0xe0..=0xef, more @ ..] => past_three(*lead, more),
-        [lead @ 0xf0..=0xf4, more @ ..] => past_four(*lead, more),
+    match (lead, more) {
+        (0x00..=0x7f, rest) => Some(rest),
+        (0xc2..=0xdf, [b, rest @ ..]) if is_tail(*b) => Some(rest),
+        (0xe0..=0xef, [b, c, rest @ ..]) if is_second3(lead, *b) && is_tail(*c) => Some(rest),
+        (0xf0..=0xf4, [b, c, d, rest @ ..]) if is_second4(lead, *b) && is_tail(*c) && is_tail(*d) =>
+            { Some(rest) }
         _ => None,
     }
 }
@@ -86,11 +58,11 @@ pub fn is_utf8(text: &[u8]) -> bool
     ensures { result ≡ well_formed text.now }
 {
     let mut left = text;
-    while !left.is_empty() {
-        match past_char(left) {
-            Some(rest) => left = rest,
-            None => return false,
-        }
+    while let [lead, more @ ..] = left {
+        let Some(rest) = past_char(*lead, more) else {
+            return false;
+        };
+        left = rest;
     }
     true
 }

@@ -1,13 +1,19 @@
+use Rattle.std.proofs.Common.{◌≡◌, Some, None, Err, rules, ◌∙◌, ap}
 use Rattle.slip.specs.Shown.{lists_in}
-use Rattle.slip.proofs.Gathered.{lists_long}
+use Rattle.slip.specs.Slips.{message_of, slip_lists}
+use Rattle.message.specs.Messages.{facts_of}
 use Rattle.slip.proofs.Meant.{facts_refused, facts_meant}
 use Rattle.slip.proofs.SlipReading.facts.Goals as goal
 
-pub slip_facts-requires : goal.slip_facts-requires
-slip_facts-requires c = lists_long c.args.bytes.now (lists_in c.in-Some.parts) c.in-Some.ensures
+pub returns-in_err-trailer : goal.returns-in_err-trailer
+returns-in_err-trailer c =
+    let e : None ≡ slip_lists c.args.bytes.now = search rules in
+    let f : c.from_residual.result ≡ Err (record {}) = search rules in
+    f ∙ facts_refused c.args.bytes.now e
 
-pub returns-in-Some : goal.returns-in-Some
-returns-in-Some c = facts_meant c.args.bytes.now (lists_in c.in-Some.parts) c.slip_facts.result c.slip_facts.ensures c.in-Some.ensures
-
-pub returns-in-None : goal.returns-in-None
-returns-in-None c = facts_refused c.args.bytes.now c.in-None.ensures
+pub returns : goal.returns
+returns c =
+    let r : c.slip.result ≡ Some (c.in_ok-trailer.trailer, c.in_ok-trailer.parts) = search rules in
+    let e : Some (lists_in c.in_ok-trailer.parts) ≡ slip_lists c.args.bytes.now = search rules in
+    let b = rw r at c.slip.ensures.bytes in
+    facts_meant c.args.bytes.now (lists_in c.in_ok-trailer.parts) c.facts.result (c.facts.ensures ∙ ap (λ b. facts_of (Some (message_of b (lists_in c.in_ok-trailer.parts)))) b) e
