@@ -7,7 +7,7 @@ ghost use Rattle.fields.specs.Fields.{children_at, children_of, field_at, index_
 use crate::parts::{Children, Field, Index};
 use little::Little;
 use tables::{TableIn, vector};
-use types::{Typed, int_row, shape};
+use types::{Typed, int_row, kinds, shape};
 
 fn children_at(bytes: &[u8], list: Option<usize>) -> Option<Children>
     ensures { result ≡ children_at bytes.now list }
@@ -34,7 +34,10 @@ fn index_row(int: Typed, id: i64) -> Index
     if int.kind == 0 {
         return Index::default();
     }
-    let row = Typed { kind: 13, ..int };
+    let row = Typed {
+        kind: kinds::DICTIONARY,
+        ..int
+    };
     Index { row, id }
 }
 
@@ -45,7 +48,7 @@ fn index_type(dictionary: TableIn) -> Option<Typed>
     match dictionary.child(1)? {
         Some(table) => int_row(table),
         None => Some(Typed {
-            kind: 3,
+            kind: kinds::FIXED,
             flag: 1,
             parameter: 4,
         }),

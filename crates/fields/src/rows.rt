@@ -53,7 +53,11 @@ impl Rows {
     pub(crate) fn push(&mut self, row: Row) -> Result<(), Refused>
         ensures { MatchResult result (λ _. held self.new ≡ held self.old ++ (row ∷ [])) (λ _. 256 ≤ length (held self.old)) }
     {
-        self.items.try_push(row).map_err(|_| Refused)
+        if self.items.is_full() {
+            return Err(Refused);
+        }
+        self.items.push(row);
+        Ok(())
     }
 
     // Another row in the place of one that is there.

@@ -84,11 +84,12 @@ pub(crate) fn batch_of(bytes: &[u8]) -> Batch<'_>
     ensures buffers { buffers_in result.buffers.bytes.now ≡ buffers_of (flat_meaning bytes.now) }
     ensures counts { counts_in result.counts.bytes.now ≡ counts_of (flat_meaning bytes.now) }
 {
-    let batch = match head_at(bytes).map(|head| head.header) {
-        Some(HeaderTable::DictionaryBatch { at }) => dictionary_at(bytes, at).map(
-            |batch| batch.data,
-        ),
-        Some(HeaderTable::RecordBatch { at }) => batch_at(bytes, at),
+    let Some(head) = head_at(bytes) else {
+        return no_batch();
+    };
+    let batch = match head.header {
+        HeaderTable::DictionaryBatch { at } => dictionary_at(bytes, at).map(|found| found.data),
+        HeaderTable::RecordBatch { at } => batch_at(bytes, at),
         _ => None,
     };
     batch.unwrap_or(no_batch())

@@ -23,8 +23,8 @@ pub struct Head {
 }
 
 #[tactic(auto, unfolding(crate::specs::Flat::header_table))]
-fn header_table(message: TableIn, number: u8) -> Option<HeaderTable>
-    ensures { result ≡ header_table message.entry.bytes.now message.entry.table number }
+fn header_table(message: &TableIn, number: u8) -> Option<HeaderTable>
+    ensures { result ≡ header_table message.now.bytes.now message.now.table number }
 {
     let header = match number {
         0 => HeaderTable::Empty,
@@ -50,7 +50,7 @@ pub(crate) fn head_at(bytes: &[u8]) -> Option<Head>
     let version = message.scalar_or(0, 0i16)?;
     let number = message.scalar_or(1, 0u8)?;
     let body = message.scalar_or(3, 0i64)?;
-    let header = header_table(message, number)?;
+    let header = header_table(&message, number)?;
     Some(Head {
         version,
         body,

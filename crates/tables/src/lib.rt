@@ -56,6 +56,7 @@ pub struct TableIn<'a> {
 impl<'a> TableIn<'a> {
     /// The table at a place.
     #[tactic(auto, unfolding(crate::specs::Tables::table_at))]
+    #[inline]
     pub fn at(bytes: &'a [u8], at: usize) -> Option<TableIn<'a>>
         ensures table { option_map (λ t. t.table) result ≡ table_at bytes.now at }
         ensures within { IfSome result (λ t. t.bytes.now ≡ bytes.now) }
@@ -71,8 +72,9 @@ impl<'a> TableIn<'a> {
 
     // The place of the field in a slot.
     #[tactic(auto, unfolding(crate::specs::Tables::field_of))]
-    fn field(self, slot: u8) -> Option<Option<usize>>
-        ensures { result ≡ field_of self.entry.bytes.now self.entry.table slot }
+    #[inline]
+    fn field(&self, slot: u8) -> Option<Option<usize>>
+        ensures { result ≡ field_of self.now.bytes.now self.now.table slot }
     {
         let entry = 4 + 2 * slot as usize;
         if entry + 2 > self.table.size as usize {
@@ -84,8 +86,9 @@ impl<'a> TableIn<'a> {
     }
 
     /// The number in a slot, or its default where the field is absent.
-    pub fn scalar_or<T: Little + Copy>(self, slot: u8, default: T) -> Option<T>
-        ensures { result ≡ scalar_of T.number_at default self.entry.bytes.now self.entry.table slot }
+    #[inline]
+    pub fn scalar_or<T: Little + Copy>(&self, slot: u8, default: T) -> Option<T>
+        ensures { result ≡ scalar_of T.number_at default self.now.bytes.now self.now.table slot }
     {
         match self.field(slot)? {
             None => Some(default),
@@ -94,15 +97,17 @@ impl<'a> TableIn<'a> {
     }
 
     /// A Bool is a byte, true where it is not 0.
-    pub fn bool_or(self, slot: u8, default: bool) -> Option<bool>
-        ensures { result ≡ bool_of default self.entry.bytes.now self.entry.table slot }
+    #[inline]
+    pub fn bool_or(&self, slot: u8, default: bool) -> Option<bool>
+        ensures { result ≡ bool_of default self.now.bytes.now self.now.table slot }
     {
         self.scalar_or(slot, u8::from(default)).map(|b| b != 0)
     }
 
     /// Whether a field that leads elsewhere is there.
-    pub fn has(self, slot: u8) -> Option<bool>
-        ensures { result ≡ present_of self.entry.bytes.now self.entry.table slot }
+    #[inline]
+    pub fn has(&self, slot: u8) -> Option<bool>
+        ensures { result ≡ present_of self.now.bytes.now self.now.table slot }
     {
         match self.field(slot)? {
             None => Some(false),
@@ -111,8 +116,9 @@ impl<'a> TableIn<'a> {
     }
 
     /// The place of the table or vector that a field leads to.
-    pub fn target(self, slot: u8) -> Option<Option<usize>>
-        ensures { result ≡ target_of self.entry.bytes.now self.entry.table slot }
+    #[inline]
+    pub fn target(&self, slot: u8) -> Option<Option<usize>>
+        ensures { result ≡ target_of self.now.bytes.now self.now.table slot }
     {
         match self.field(slot)? {
             None => Some(None),
@@ -121,9 +127,10 @@ impl<'a> TableIn<'a> {
     }
 
     /// The table that a field leads to.
-    pub fn child(self, slot: u8) -> Option<Option<TableIn<'a>>>
-        ensures table { option_map (option_map (λ t. t.table)) result ≡ child_of self.entry.bytes.now self.entry.table slot }
-        ensures within { IfSome result (λ o. IfSome o (λ t. t.bytes.now ≡ self.entry.bytes.now)) }
+    #[inline]
+    pub fn child(&self, slot: u8) -> Option<Option<TableIn<'a>>>
+        ensures table { option_map (option_map (λ t. t.table)) result ≡ child_of self.now.bytes.now self.now.table slot }
+        ensures within { IfSome result (λ o. IfSome o (λ t. t.bytes.now ≡ self.now.bytes.now)) }
     {
         match self.target(slot)? {
             None => Some(None),

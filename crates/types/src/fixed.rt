@@ -3,6 +3,7 @@ ghost use Rattle.std.specs.Prelude.{◌≡◌};
 ghost use Rattle.types.specs.Choices.{beside_z, between};
 ghost use Rattle.types.specs.Types.{binary_row, decimal_row, decimal_width, fixed, int_row, int_widths, list_row, time_row, time_width, unit_row, width_by};
 
+use crate::kinds;
 use crate::shapes::Typed;
 use tables::TableIn;
 
@@ -12,7 +13,7 @@ fn fixed(flag: u8, width: Option<u32>) -> Typed
     width.map_or(
         Typed::default(),
         |parameter| Typed {
-            kind: 3,
+            kind: kinds::FIXED,
             flag,
             parameter,
         },
@@ -24,7 +25,7 @@ fn between(low: u32, high: u32, n: i32) -> Option<u32>
     ensures { result ≡ between low high n }
 {
     let n = u32::try_from(n).ok()?;
-    (low <= n && n <= high).then_some(n)
+    (low..=high).contains(&n).then_some(n)
 }
 
 fn int_width(bits: i32) -> Option<u32>
@@ -40,6 +41,7 @@ fn int_width(bits: i32) -> Option<u32>
 }
 
 #[tactic(auto, unfolding(crate::specs::Types::int_row))]
+#[inline]
 pub fn int_row(table: TableIn) -> Option<Typed>
     ensures { result ≡ int_row table.entry.bytes.now table.entry.table }
 {
@@ -120,7 +122,7 @@ pub(crate) fn list_row(table: TableIn) -> Option<Typed>
     Some(between(0, 2147483647, size).map_or(
         Typed::default(),
         |parameter| Typed {
-            kind: 11,
+            kind: kinds::FIXED_SIZE_LIST,
             flag: 0,
             parameter,
         },

@@ -2,6 +2,7 @@
 #![tactic(auto)]
 
 mod fixed;
+pub mod kinds;
 mod numbers;
 pub mod shapes;
 pub mod types;

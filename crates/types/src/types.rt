@@ -5,9 +5,9 @@ ghost use Rattle.tables.specs.declared.Table.{Table};
 ghost use Rattle.types.specs.Types.{Tells, by_table, map_shape, plain_rows, plainly, row_of, shape_of, table_shape, table_types, union_shape};
 
 use crate::fixed::{binary_row, decimal_row, int_row, list_row, time_row, unit_row};
-use crate::numbers;
 use crate::shapes::{Shape, TableType, Tags, Typed};
 use crate::unions::union_shape;
+use crate::{kinds, numbers};
 use tables::TableIn;
 
 impl Shape {
@@ -27,19 +27,19 @@ fn plain_row(number: u8) -> Option<Typed>
     ensures { result ≡ beside plain_rows number }
 {
     let (kind, flag) = match number {
-        numbers::NULL => (1, 0),
-        numbers::BOOL => (2, 0),
-        numbers::BINARY => (4, 0),
-        numbers::UTF8 => (4, 1),
-        numbers::LARGE_BINARY => (5, 0),
-        numbers::LARGE_UTF8 => (5, 1),
-        numbers::BINARY_VIEW => (6, 0),
-        numbers::UTF8_VIEW => (6, 1),
-        numbers::LIST => (7, 0),
-        numbers::LARGE_LIST => (8, 0),
-        numbers::LIST_VIEW => (9, 0),
-        numbers::LARGE_LIST_VIEW => (10, 0),
-        numbers::STRUCT => (12, 0),
+        numbers::NULL => (kinds::NULL, 0),
+        numbers::BOOL => (kinds::BOOL, 0),
+        numbers::BINARY => (kinds::BINARY, 0),
+        numbers::UTF8 => (kinds::BINARY, 1),
+        numbers::LARGE_BINARY => (kinds::LARGE_BINARY, 0),
+        numbers::LARGE_UTF8 => (kinds::LARGE_BINARY, 1),
+        numbers::BINARY_VIEW => (kinds::VIEW, 0),
+        numbers::UTF8_VIEW => (kinds::VIEW, 1),
+        numbers::LIST => (kinds::LIST, 0),
+        numbers::LARGE_LIST => (kinds::LARGE_LIST, 0),
+        numbers::LIST_VIEW => (kinds::LIST_VIEW, 0),
+        numbers::LARGE_LIST_VIEW => (kinds::LARGE_LIST_VIEW, 0),
+        numbers::STRUCT => (kinds::STRUCT, 0),
         _ => return None,
     };
     Some(Typed {
@@ -86,6 +86,7 @@ fn table_row(table: TableIn, of: TableType) -> Option<Typed>
 }
 
 // A type that is read from its own table; without one it is unknown.
+#[inline]
 fn by_table<F: FnOnce(TableIn) -> Option<Shape>>(field: TableIn, read: F) -> Option<Shape>
     requires { F.IsAlwaysCallable read }
     ensures { (shape : Table → Option Shape) → Tells (F.post read) field.entry.bytes.now shape → result ≡ by_table field.entry.bytes.now field.entry.table shape }
@@ -102,7 +103,7 @@ fn map_shape(field: TableIn) -> Option<Shape>
 {
     let there = field.has(3)?;
     let row = Typed {
-        kind: if there { 7 } else { 0 },
+        kind: if there { kinds::LIST } else { 0 },
         ..Typed::default()
     };
     Some(Shape::plain(row))

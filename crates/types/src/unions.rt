@@ -4,6 +4,7 @@ ghost use Rattle.little.specs.Numbers.{le};
 ghost use Rattle.types.specs.Choices.{beside_z};
 ghost use Rattle.types.specs.Types.{ids_fit, tags_of, union_by, union_kinds, union_shape};
 
+use crate::kinds;
 use crate::shapes::{Shape, Tags, Typed};
 use tables::{TableIn, vector};
 
@@ -40,8 +41,8 @@ fn union_kind(mode: i16) -> Option<u8>
     ensures { result ≡ beside_z union_kinds mode }
 {
     match mode {
-        0 => Some(14),
-        1 => Some(15),
+        0 => Some(kinds::SPARSE_UNION),
+        1 => Some(kinds::DENSE_UNION),
         _ => None,
     }
 }
