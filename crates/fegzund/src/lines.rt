@@ -3,17 +3,17 @@ ghost use Rattle.std.specs.Prelude.{◌+◌, ◌≤◌, length};
 
 use crate::text::{ROOM, Text};
 use framing::FrameHead;
-use message::{BatchFacts, Buffer, Fault, Header, Node, Place, Row};
+use message::{BatchFacts, Buffer, Fault, Header, Node, Place, Row, headers};
 use std::io;
 use std::io::Write;
 
 // The number of a header type.
 fn header_type(header: &Header) -> u8 {
     match header {
-        Header::Empty => 0,
-        Header::Schema { .. } => 1,
-        Header::DictionaryBatch { .. } => 2,
-        Header::RecordBatch { .. } => 3,
+        Header::Empty => headers::NONE,
+        Header::Schema { .. } => headers::SCHEMA,
+        Header::DictionaryBatch { .. } => headers::DICTIONARY_BATCH,
+        Header::RecordBatch { .. } => headers::RECORD_BATCH,
         Header::Other { number } => *number,
     }
 }

@@ -2,6 +2,7 @@
 ghost use Rattle.std.specs.Prelude.{◌≡◌};
 ghost use Rattle.flatbuf.specs.Flat.{head_at, header_table};
 
+use message::headers;
 use tables::{TableIn, follow};
 
 /// What a message is about, by its header type, with the place of the header's table where that is read.
@@ -27,14 +28,14 @@ fn header_table(message: &TableIn, number: u8) -> Option<HeaderTable>
     ensures { result ≡ header_table message.now.bytes.now message.now.table number }
 {
     let header = match number {
-        0 => HeaderTable::Empty,
-        1 => HeaderTable::Schema {
+        headers::NONE => HeaderTable::Empty,
+        headers::SCHEMA => HeaderTable::Schema {
             at: message.target(2)??,
         },
-        2 => HeaderTable::DictionaryBatch {
+        headers::DICTIONARY_BATCH => HeaderTable::DictionaryBatch {
             at: message.target(2)??,
         },
-        3 => HeaderTable::RecordBatch {
+        headers::RECORD_BATCH => HeaderTable::RecordBatch {
             at: message.target(2)??,
         },
         number => HeaderTable::Other { number },

@@ -1,5 +1,14 @@
 // What a message says of itself, without its lists.
 
+/// The numbers of header types, as Message.fbs has them.
+pub const NONE: u8 = 0;
+
+pub const SCHEMA: u8 = 1;
+
+pub const DICTIONARY_BATCH: u8 = 2;
+
+pub const RECORD_BATCH: u8 = 3;
+
 // How many of each list a batch has, beside its length and its marks.
 #[derive(Clone, Copy, Debug, PartialEq, Eq, Hash)]
 pub struct BatchFacts {

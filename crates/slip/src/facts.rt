@@ -6,7 +6,7 @@ ghost use Rattle.slip.specs.Shown.{lists_in};
 
 use crate::parts::Parts;
 use crate::trailers::{BODY, DELTA, ID, KIND, LONG, Trailer, VERSION};
-use message::{BatchFacts, Facts, Header};
+use message::{BatchFacts, Facts, Header, headers};
 
 impl<'a> Trailer<'a> {
     // Of a batch or of a dictionary's data.
@@ -28,16 +28,16 @@ impl<'a> Trailer<'a> {
         ensures { result ≡ header_of (contents_of self.entry.bytes.now (lists_in parts.entry)) }
     {
         match self.told(KIND) {
-            0u8 => Header::Empty,
-            1 => Header::Schema {
+            headers::NONE => Header::Empty,
+            headers::SCHEMA => Header::Schema {
                 rows: parts.rows.len(),
             },
-            2 => Header::DictionaryBatch {
+            headers::DICTIONARY_BATCH => Header::DictionaryBatch {
                 id: self.told(ID),
                 delta: self.told::<u8>(DELTA) == 1,
                 data: self.batch_facts(parts),
             },
-            3 => Header::RecordBatch {
+            headers::RECORD_BATCH => Header::RecordBatch {
                 data: self.batch_facts(parts),
             },
             number => Header::Other { number },

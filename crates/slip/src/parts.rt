@@ -9,7 +9,7 @@ ghost use Rattle.slip.specs.Shown.{lists_in, shown_parts};
 
 use crate::trailers::{BUFFERS, COUNTS, KIND, NODES, ROWS, TRAILER, Trailer};
 use little::Little;
-use message::{Buffer, Items, Node, Row};
+use message::{Buffer, Items, Node, Row, headers};
 
 // A part for each list.
 #[derive(Clone, Copy, Default)]
@@ -61,11 +61,11 @@ impl<'a> Parts<'a> {
     {
         let none = Parts::default();
         match kind {
-            1 => Parts {
+            headers::SCHEMA => Parts {
                 rows: self.rows,
                 ..none
             },
-            2 | 3 => Parts {
+            headers::DICTIONARY_BATCH | headers::RECORD_BATCH => Parts {
                 rows: none.rows,
                 ..self
             },
