@@ -17,7 +17,7 @@ use std::rt::Files;
 const BLOCK: usize = 262144;
 
 // What is made of a stream.
-#[derive(Clone, Copy)]
+#[derive(Clone, Copy, Debug, PartialEq, Eq)]
 pub(crate) enum Verdict {
     Accepted,
     Refused,

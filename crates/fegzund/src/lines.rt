@@ -7,7 +7,8 @@ use message::{BatchFacts, Buffer, Fault, Header, Node, Place, Row, headers};
 use std::io;
 use std::io::Write;
 
-// The number of a header type.
+// The number of a header type. No `From` of a type that is not this crate's can be written here, and a derive gives numbers
+// only to variants without fields.
 fn header_type(header: &Header) -> u8 {
     match header {
         Header::Empty => headers::NONE,

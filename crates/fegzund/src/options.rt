@@ -40,7 +40,7 @@ The exit status is 0 where the stream is accepted, and 1 where it is refused or 
 ";
 
 // How metadata are read.
-#[derive(Clone, Copy)]
+#[derive(Clone, Copy, Debug, PartialEq, Eq)]
 pub(crate) enum Form {
     FlatBuffers,
     Slip,

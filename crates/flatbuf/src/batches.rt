@@ -9,7 +9,7 @@ use message::{Buffer, Items, Node};
 use tables::{TableIn, vector};
 
 // A batch: its length, its marks, and the parts of the bytes that its lists fill.
-#[derive(Clone, Copy)]
+#[derive(Clone, Copy, Debug, PartialEq, Eq)]
 pub(crate) struct Batch<'a> {
     pub(crate) long: i64,
     pub(crate) compressed: bool,
@@ -19,7 +19,7 @@ pub(crate) struct Batch<'a> {
     pub(crate) counts: Items<'a, i64>,
 }
 
-#[derive(Clone, Copy)]
+#[derive(Clone, Copy, Debug, PartialEq, Eq)]
 pub(crate) struct DictionaryBatch<'a> {
     pub(crate) id: i64,
     pub(crate) delta: bool,

@@ -77,6 +77,7 @@ impl OpeningBytes {
         let mut bytes = self.bytes;
         bytes[self.got] = b;
         let got = self.got + 1;
+        // no `ok_or`: it would make what there is of an opening also where the opening is whole
         match opening_in(&bytes[..got]) {
             Some(opening) => Ok(opening),
             None => Err(OpeningBytes { bytes, got }),

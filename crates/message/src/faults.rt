@@ -69,7 +69,7 @@ impl Refusal {
         self as u8
     }
 
-    // The refusal of a call, which no frame brought about.
+    // The refusal of a call, which no frame brought about. A method, and not `From`: a refusal gives a fault in two ways.
     pub fn bare(self) -> Fault
         ensures { result ≡ bare self }
     {

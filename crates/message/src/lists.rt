@@ -29,6 +29,7 @@ pub(crate) fn lay<T: Copy, F: Fn(usize) -> Option<T>>(table: &mut [T], item: F) 
     requires { F.IsAlwaysCallable item }
     ensures { (items : List T) → TellsItems (F.post item) items → Lays items table.old result table.new }
 {
+    // by number, which asks for the item too; of a table behind `iter_mut().enumerate()` no proof knows anything
     for n in 0..table.len() {
         match item(n) {
             Some(item) => table[n] = item,
@@ -39,7 +40,7 @@ pub(crate) fn lay<T: Copy, F: Fn(usize) -> Option<T>>(table: &mut [T], item: F) 
 }
 
 /// A list of items that stand one after the other, as the bytes that it fills.
-#[derive(Clone, Copy)]
+#[derive(Clone, Copy, Debug, PartialEq, Eq)]
 pub struct Items<'a, T> {
     pub bytes: &'a [u8],
     pub of: PhantomData<T>,

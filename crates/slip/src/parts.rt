@@ -12,7 +12,7 @@ use little::Little;
 use message::{Buffer, Items, Node, Row, headers};
 
 // A part for each list.
-#[derive(Clone, Copy, Default)]
+#[derive(Clone, Copy, Debug, Default, PartialEq, Eq)]
 pub(crate) struct Parts<'a> {
     pub(crate) rows: Items<'a, Row>,
     pub(crate) nodes: Items<'a, Node>,
@@ -32,13 +32,11 @@ impl<'a> Trailer<'a> {
         let back = self.told::<u32>(at + 4) as usize;
         let size = count * T::WIDTH;
         if count == 0 {
-            Some(Items::new(&self.bytes[..0]))
-        } else if back <= trailer && size <= back {
-            let start = trailer - back;
-            Some(Items::new(&self.bytes[start..start + size]))
-        } else {
-            None
+            return Some(Items::new(&self.bytes[..0]));
         }
+        let start = trailer.checked_sub(back)?;
+        let part = self.bytes[start..trailer].get(..size)?;
+        Some(Items::new(part))
     }
 
     // All four lists, whatever the header type.

@@ -34,7 +34,7 @@ const MARKER: usize = 60;
 const SLP1: u32 = 0x3150_4c53;
 
 // Bytes that have a trailer: their last 64.
-#[derive(Clone, Copy)]
+#[derive(Clone, Copy, Debug, PartialEq, Eq)]
 pub(crate) struct Trailer<'a> {
     pub(crate) bytes: &'a [u8],
     ghost long: { 64 ≤ length bytes.now },
@@ -49,11 +49,8 @@ impl<'a> Trailer<'a> {
             return None;
         }
         let trailer = Trailer { bytes };
-        if trailer.told::<u32>(MARKER) == SLP1 && trailer.told::<u8>(DELTA) <= 1 {
-            Some(trailer)
-        } else {
-            None
-        }
+        let slip = trailer.told::<u32>(MARKER) == SLP1 && trailer.told::<u8>(DELTA) <= 1;
+        slip.then_some(trailer)
     }
 
     // A number, by its place in the trailer.

@@ -1,5 +1,6 @@
 // FlatBuffers, as far as they are read: tables, vtables, fields and vectors within bytes.
-// A read that leaves the bytes answers nothing.
+// A read that leaves the bytes answers nothing, and a field that is absent is a `None` within. No error enum stands for the
+// first: a read can fail in one way, and no caller asks for a reason.
 #![tactic(auto)]
 
 ghost use Rattle.std.specs.Prelude.{◌≡◌, ℕ, ◌+◌, ◌*◌, ◌<◌, IfSome};

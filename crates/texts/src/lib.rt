@@ -25,7 +25,7 @@ fn is_second3(a: u8, b: u8) -> bool
     }
 }
 
-// The same for a character of four bytes: none above U+10FFFF.
+// The same for a character of four bytes: none above U+10FFFF. Two functions, since no range of one is the other's.
 fn is_second4(a: u8, b: u8) -> bool
     ensures { result ≡ second4 a b }
 {
