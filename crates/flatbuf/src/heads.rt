@@ -28,15 +28,14 @@ fn header_table(message: &TableIn, number: u8) -> Option<HeaderTable>
 {
     let header = match number {
         0 => HeaderTable::Empty,
-        1 => HeaderTable::Schema {
-            at: message.target(2)??,
-        },
-        2 => HeaderTable::DictionaryBatch {
-            at: message.target(2)??,
-        },
-        3 => HeaderTable::RecordBatch {
-            at: message.target(2)??,
-        },
+        1..=3 => {
+            let at = message.target(2)??;
+            match number {
+                1 => HeaderTable::Schema { at },
+                2 => HeaderTable::DictionaryBatch { at },
+                _ => HeaderTable::RecordBatch { at },
+            }
+        }
         number => HeaderTable::Other { number },
     };
     Some(header)
