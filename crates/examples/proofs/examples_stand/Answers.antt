@@ -8,7 +8,7 @@ use Rattle.tables.specs.Tables.{place_in, table_at, field_of, leads, vector_at, 
 use Rattle.types.specs.Types.{int_row, unit_row, decimal_row, time_row, binary_row, list_row, union_shape, table_shape, map_shape, shape_of}
 use Rattle.fields.specs.Fields.{children_of, field_at, index_at}
 use Rattle.fields.specs.Walks.{child_rows, rows_at, walk_at}
-use Rattle.flatbuf.specs.Flat.{batch_at, contents_at, dictionary_at, flat_meaning, head_at, schema_at, vector_of}
+use Rattle.flatbuf.specs.Flat.{batch_at, contents_at, dictionary_at, flat_meaning, head_at, header_table, schema_at, vector_of}
 use Rattle.schemas.specs.Schemas.{parse, admits}
 use Rattle.columns.specs.Looks.{look}
 use Rattle.columns.specs.Slots.{slot}
@@ -41,7 +41,7 @@ unfolding number_in slip_lists slip_meaning listed
 slip = record { told = refl; short = refl }
 
 flat : FlatCase
-unfolding number_in number_at listed place_in table_at field_of leads vector_at item_of int_row map_shape shape_of table_shape union_shape unit_row children_of field_at index_at child_rows walk_at batch_at contents_at flat_meaning head_at rows_at schema_at vector_of
+unfolding number_in number_at listed place_in table_at field_of leads vector_at item_of int_row map_shape shape_of table_shape union_shape unit_row children_of field_at index_at child_rows walk_at batch_at contents_at flat_meaning head_at header_table rows_at schema_at vector_of
 flat = record { told = refl; rows = refl; short = refl }
 
 text : TextCase
@@ -116,7 +116,7 @@ unfolding number_in parse admits look slot cell_at batch_fault values_fault act
 departs = record { absent_text = refl; present_text = refl; left_over = refl; union_nulls = refl; dense_any_order = refl }
 
 recorded : Recorded
-unfolding number_in number_at listed place_in table_at field_of leads vector_at item_of int_row unit_row decimal_row time_row binary_row list_row union_shape table_shape map_shape shape_of children_of index_at field_at child_rows walk_at rows_at slip_lists slip_meaning vector_of batch_at dictionary_at schema_at head_at contents_at flat_meaning marks first frames stream parse admits look slot cell_at batch_fault values_fault act feed spelled trace
+unfolding number_in number_at listed place_in table_at field_of leads vector_at item_of int_row unit_row decimal_row time_row binary_row list_row union_shape table_shape map_shape shape_of children_of index_at field_at child_rows walk_at rows_at slip_lists slip_meaning vector_of batch_at dictionary_at schema_at head_at header_table contents_at flat_meaning marks first frames stream parse admits look slot cell_at batch_fault values_fault act feed spelled trace
 recorded = record { compressed = refl; node_missing = refl; null_count = refl; rule = refl; unnamed = refl; unlike = refl; large = refl; unread = refl; two_schemas = refl; no_schema = refl; union = refl; lists = refl; clues_in_flat_buffers = refl; clues_in_slips = refl }
 
 pub returns : goal.returns
