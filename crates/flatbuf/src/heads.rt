@@ -29,15 +29,14 @@ fn header_table(message: &TableIn, number: u8) -> Option<HeaderTable>
 {
     let header = match number {
         headers::NONE => HeaderTable::Empty,
-        headers::SCHEMA => HeaderTable::Schema {
-            at: message.target(2)??,
-        },
-        headers::DICTIONARY_BATCH => HeaderTable::DictionaryBatch {
-            at: message.target(2)??,
-        },
-        headers::RECORD_BATCH => HeaderTable::RecordBatch {
-            at: message.target(2)??,
-        },
+        headers::SCHEMA..=headers::RECORD_BATCH => {
+            let at = message.target(2)??;
+            match number {
+                headers::SCHEMA => HeaderTable::Schema { at },
+                headers::DICTIONARY_BATCH => HeaderTable::DictionaryBatch { at },
+                _ => HeaderTable::RecordBatch { at },
+            }
+        }
         number => HeaderTable::Other { number },
     };
     Some(header)

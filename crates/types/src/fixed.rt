@@ -87,11 +87,14 @@ pub(crate) fn time_row(table: TableIn) -> Option<Typed>
 fn decimal_width(precision: i32, scale: i32, bits: i32) -> Option<u32>
     ensures { result ≡ decimal_width precision scale bits }
 {
-    match (precision, scale, bits) {
-        (0..=255, -128..=127, 32) => Some(4),
-        (0..=255, -128..=127, 64) => Some(8),
-        (0..=255, -128..=127, 128) => Some(16),
-        (0..=255, -128..=127, 256) => Some(32),
+    if !(0..=255).contains(&precision) || !(-128..=127).contains(&scale) {
+        return None;
+    }
+    match bits {
+        32 => Some(4),
+        64 => Some(8),
+        128 => Some(16),
+        256 => Some(32),
         _ => None,
     }
 }
@@ -119,12 +122,13 @@ pub(crate) fn list_row(table: TableIn) -> Option<Typed>
     ensures { result ≡ list_row table.entry.bytes.now table.entry.table }
 {
     let size = table.scalar_or(0, 0i32)?;
-    Some(between(0, 2147483647, size).map_or(
+    let row = u32::try_from(size).map_or(
         Typed::default(),
         |parameter| Typed {
             kind: kinds::FIXED_SIZE_LIST,
             flag: 0,
             parameter,
         },
-    ))
+    );
+    Some(row)
 }
