@@ -21,7 +21,7 @@ fn ids_fit(ids: &[u8], n: u32) -> bool
     requires { length ids.now ≡ 4 * n }
     ensures { result ≡ ids_fit ids.now n }
 {
-    let (ids, _) = ids.as_chunks();
+    let (ids, _) = ids.as_chunks::<4>();
     ids.iter().all(fits)
 }
 
