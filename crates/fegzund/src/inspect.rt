@@ -69,6 +69,7 @@ fn list<R: Print + AllocGlobal, F: Reading, S: Read + Drop>(
     let mut inspection = Inspection::new(rt.alloc(), reading, options, io::writer(rt))?;
     let mut block = vec![in rt.alloc(); 0u8; BLOCK]?;
     let file = options.file.as_str();
+    // bounded, since nothing says that a reader of unknown bytes ends
     for _ in 0..u64::MAX {
         // no map_err: tried, and the bound on n was not proved behind it
         let n = match source.read(&mut block) {
@@ -112,7 +113,8 @@ impl<'a, F: Reading, W: Write + Drop> Inspection<'a, F, W> {
     // Lists the frames that a block makes whole; the fault of one that is refused.
     fn block(&mut self, block: &[u8]) -> Result<Option<Fault>> {
         let mut rest = block;
-        // each turn uses a byte at least
+        // each turn uses a byte at least, and no more than are left; the contract says so only by what the stream's
+        // definition gives, so the bound and the `unwrap_or` below take the place of two lemmas
         for _ in 0..block.len() {
             let step = match self
                 .decoder

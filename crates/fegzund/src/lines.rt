@@ -1,23 +1,11 @@
-// The lines of a listing, each of 256 bytes at most.
+// The lines of a listing, each of 256 bytes at most. By hand: text.rt says why.
 ghost use Rattle.std.specs.Prelude.{◌+◌, ◌≤◌, length};
 
 use crate::text::{ROOM, Text};
 use framing::FrameHead;
-use message::{BatchFacts, Buffer, Fault, Header, Node, Place, Row, headers};
+use message::{BatchFacts, Buffer, Fault, Node, Place, Row};
 use std::io;
 use std::io::Write;
-
-// The number of a header type. No `From` of a type that is not this crate's can be written here, and a derive gives numbers
-// only to variants without fields.
-fn header_type(header: &Header) -> u8 {
-    match header {
-        Header::Empty => headers::NONE,
-        Header::Schema { .. } => headers::SCHEMA,
-        Header::DictionaryBatch { .. } => headers::DICTIONARY_BATCH,
-        Header::RecordBatch { .. } => headers::RECORD_BATCH,
-        Header::Other { number } => *number,
-    }
-}
 
 // The number and the place of a frame.
 fn placed<W: Write + Drop>(text: &mut Text<W>, word: &str, place: &Place)
@@ -41,7 +29,7 @@ pub(crate) fn frame<W: Write + Drop>(text: &mut Text<W>, head: &FrameHead) -> io
     text.mark(" marker ", head.opening.marked);
     text.number(" size ", head.opening.size as u64);
     text.signed(" version ", i64::from(head.facts.version));
-    text.number(" type ", u64::from(header_type(&head.facts.header)));
+    text.number(" type ", u64::from(head.facts.header.number()));
     text.number(" body ", head.body as u64);
     text.word("\n");
     Ok(())

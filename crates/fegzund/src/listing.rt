@@ -128,6 +128,7 @@ fn items<W, T: Copy, A: Fn(usize) -> Option<T>, L: Fn(&mut W, usize, &T) -> io::
     requires asks { A.IsAlwaysCallable ask }
     requires writes { L.IsAlwaysCallable line }
 {
+    // by number, which is in the line, and by which any others are asked for
     for k in 0..count {
         if let Some(item) = table.get(k).copied().or_else(|| ask(k)) {
             line(text, k, &item)?;

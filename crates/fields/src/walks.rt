@@ -54,6 +54,7 @@ fn read_children(
 ) -> Result<(), Refused>
     ensures { Reads (child_rows (walk_at depth bytes.now) bytes.now tags children.at children.count 0 (length (held rows.old))) result (held rows.old) (held rows.new) }
 {
+    // by number, which a child's place and its tag are looked up by
     for k in 0..children.count {
         let at = item(bytes, children.at, k).ok_or(Refused)?;
         read_field(bytes, at, tag_of(bytes, tags, k), depth, rows)?;

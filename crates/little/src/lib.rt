@@ -33,6 +33,7 @@ pub fn bytes_at<const N: usize>(bytes: &[u8], at: usize) -> Option<[u8; N]>
     bytes.get(at..)?.first_chunk().copied()
 }
 
+// Seven impls written out: none may be written by a macro of this repository.
 impl Little for u8 {
     const WIDTH: usize = 1;
 

@@ -48,6 +48,14 @@ batch_facts c = record {
   counts = length c.counts;
 }
 
+-- the number of a header type
+abbrev pub type_of : Header → ℕ
+type_of Empty = 0
+type_of (Schema rows) = 1
+type_of (DictionaryBatch id delta facts) = 2
+type_of (RecordBatch facts) = 3
+type_of (Other n) = n
+
 abbrev pub header_of : Contents → Header
 header_of nothing = Empty
 header_of (schema rows) = Schema (length rows)

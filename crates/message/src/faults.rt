@@ -2,6 +2,9 @@
 ghost use Rattle.std.specs.Prelude.{◌≡◌};
 ghost use Rattle.message.specs.Faults.{bare, number_of, placed};
 
+use std::error::Error;
+use std::fmt;
+
 #[derive(Clone, Copy, Debug, PartialEq, Eq, Hash)]
 pub enum Refusal {
     // a memory's length is out of bounds, or not the one that it had at first
@@ -108,3 +111,21 @@ pub struct Fault {
     // the slot that breaks a rule, or the column's length where the whole column does
     pub index: Option<usize>,
 }
+
+impl fmt::Display for Fault {
+    fn fmt<W: fmt::Write>(&self, f: &mut fmt::Formatter<W>) -> fmt::Result {
+        write!(f, "refused {}", self.refusal.number())?;
+        if let Some(place) = &self.place {
+            write!(f, " message {} position {}", place.message, place.position)?;
+        }
+        if let Some(row) = &self.row {
+            write!(f, " row {row}")?;
+        }
+        if let Some(index) = &self.index {
+            write!(f, " index {index}")?;
+        }
+        Ok(())
+    }
+}
+
+impl Error for Fault {}

@@ -1,6 +1,8 @@
 // What a message says of itself, without its lists.
 
-/// The numbers of header types, as Message.fbs has them.
+ghost use Rattle.std.specs.Prelude.{◌≡◌};
+
+/// The numbers of header types, as Message.fbs has them, for bytes that may have any other.
 pub const NONE: u8 = 0;
 
 pub const SCHEMA: u8 = 1;
@@ -39,6 +41,23 @@ pub enum Header {
     Other {
         number: u8,
     },
+}
+
+impl Header {
+    ghost use Rattle.message.specs.Messages.{type_of};
+
+    /// The number of the header type.
+    pub fn number(&self) -> u8
+        ensures { result ≡ type_of self.now }
+    {
+        match self {
+            Header::Empty => NONE,
+            Header::Schema { .. } => SCHEMA,
+            Header::DictionaryBatch { .. } => DICTIONARY_BATCH,
+            Header::RecordBatch { .. } => RECORD_BATCH,
+            Header::Other { number } => *number,
+        }
+    }
 }
 
 #[derive(Clone, Copy, Debug, PartialEq, Eq, Hash)]

@@ -29,7 +29,7 @@ pub(crate) fn lay<T: Copy, F: Fn(usize) -> Option<T>>(table: &mut [T], item: F) 
     requires { F.IsAlwaysCallable item }
     ensures { (items : List T) → TellsItems (F.post item) items → Lays items table.old result table.new }
 {
-    // by number, which asks for the item too; of a table behind `iter_mut().enumerate()` no proof knows anything
+    // by number, which asks for the item too: behind `iter_mut().enumerate()` no proof knows anything of the table
     for n in 0..table.len() {
         match item(n) {
             Some(item) => table[n] = item,
@@ -40,7 +40,7 @@ pub(crate) fn lay<T: Copy, F: Fn(usize) -> Option<T>>(table: &mut [T], item: F) 
 }
 
 /// A list of items that stand one after the other, as the bytes that it fills.
-#[derive(Clone, Copy, Debug, PartialEq, Eq)]
+#[derive(Clone, Copy, Debug, Default, PartialEq, Eq)]
 pub struct Items<'a, T> {
     pub bytes: &'a [u8],
     pub of: PhantomData<T>,
@@ -68,15 +68,6 @@ impl<'a, T: Little> Items<'a, T> {
         ensures { IsTrue result ↔ (listed T.WIDTH T.number self.now.bytes.now ≡ []) }
     {
         self.len() == 0
-    }
-}
-
-// A list of no items.
-impl<'a, T> Default for Items<'a, T> {
-    ghost is_default = { λ s. s.bytes.now ≡ [] };
-
-    fn default() -> Items<'a, T> {
-        Items::new(&[])
     }
 }
 

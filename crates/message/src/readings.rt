@@ -8,10 +8,20 @@ use crate::headers::Facts;
 use crate::items::{Buffer, Node};
 use crate::lists::lay;
 use crate::rows::Row;
+use std::error::Error;
+use std::fmt;
 
 // The bytes are not metadata of this form.
 #[derive(Clone, Copy, Debug, PartialEq, Eq, Hash)]
 pub struct Refused;
+
+impl fmt::Display for Refused {
+    fn fmt<W: fmt::Write>(&self, f: &mut fmt::Formatter<W>) -> fmt::Result {
+        f.write_str("these bytes are not metadata of this form")
+    }
+}
+
+impl Error for Refused {}
 
 // How many items of each list of a batch went into its table.
 #[derive(Clone, Copy, Debug, Default, PartialEq, Eq, Hash)]
@@ -69,7 +79,7 @@ pub trait Reading {
         self.lists(bytes, &mut [], &mut [], table).counts
     }
 
-    // Nodes, buffers and counts together.
+    // Nodes, buffers and counts together. The three questions before ask this one, so a body of it asks none of them.
     fn lists(
         &self,
         bytes: &[u8],

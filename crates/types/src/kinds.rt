@@ -1,4 +1,4 @@
-// The kinds of rows.
+// The kinds of rows: numbers, as a row has them, which `Kind` of the crate `schemas` is made of.
 pub const NULL: u8 = 1;
 
 pub const BOOL: u8 = 2;

@@ -1,4 +1,5 @@
-// The numbers of Arrow's types, as Schema.fbs has them.
+// The numbers of Arrow's types, as Schema.fbs has them. No enum: each is matched once, and an enum would need another table,
+// from the numbers to its variants.
 pub(crate) const NULL: u8 = 1;
 
 pub(crate) const INT: u8 = 2;

@@ -1,6 +1,6 @@
 // What a type says of its row and of its children's.
 
-/// Kind, flag and parameter of a row. The default is the row of a type that has no row kind.
+/// Kind, flag and parameter of a row, as `Row` has them. The default is the row of a type that has no row kind.
 #[derive(Clone, Copy, Debug, Default, PartialEq, Eq, Hash)]
 pub struct Typed {
     pub kind: u8,
@@ -22,7 +22,7 @@ pub struct Shape {
     pub tags: Tags,
 }
 
-/// Types whose row is read from a table of their own.
+/// Types whose row is read from a table of their own. An enum, and not a closure for each: the definitions name them too.
 #[derive(Clone, Copy, Debug, PartialEq, Eq, Hash)]
 pub enum TableType {
     Int,
