@@ -13,6 +13,7 @@ use tables::{TableIn, vector};
 pub(crate) struct Batch<'a> {
     pub(crate) long: i64,
     pub(crate) compressed: bool,
+    // a mark of the format, and no flag: the lists are empty where it is set
     pub(crate) missing: bool,
     pub(crate) nodes: Items<'a, Node>,
     pub(crate) buffers: Items<'a, Buffer>,

@@ -5,7 +5,8 @@ ghost use Rattle.flatbuf.specs.Flat.{head_at, header_table};
 use message::headers;
 use tables::{TableIn, follow};
 
-/// What a message is about, by its header type, with the place of the header's table where that is read.
+/// What a message is about, by its header type, with the place of the header's table where that is read: `Header` before it
+/// is read.
 #[derive(Clone, Copy, Debug, PartialEq, Eq, Hash)]
 pub enum HeaderTable {
     Empty,
@@ -27,19 +28,13 @@ pub struct Head {
 fn header_table(message: &TableIn, number: u8) -> Option<HeaderTable>
     ensures { result ≡ header_table message.now.bytes.now message.now.table number }
 {
-    let header = match number {
-        headers::NONE => HeaderTable::Empty,
-        headers::SCHEMA..=headers::RECORD_BATCH => {
-            let at = message.target(2)??;
-            match number {
-                headers::SCHEMA => HeaderTable::Schema { at },
-                headers::DICTIONARY_BATCH => HeaderTable::DictionaryBatch { at },
-                _ => HeaderTable::RecordBatch { at },
-            }
-        }
-        number => HeaderTable::Other { number },
-    };
-    Some(header)
+    match number {
+        headers::NONE => Some(HeaderTable::Empty),
+        headers::SCHEMA => message.target(2)?.map(|at| HeaderTable::Schema { at }),
+        headers::DICTIONARY_BATCH => message.target(2)?.map(|at| HeaderTable::DictionaryBatch { at }),
+        headers::RECORD_BATCH => message.target(2)?.map(|at| HeaderTable::RecordBatch { at }),
+        number => Some(HeaderTable::Other { number }),
+    }
 }
 
 #[tactic(auto, unfolding(crate::specs::Flat::head_at))]

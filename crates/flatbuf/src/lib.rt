@@ -27,10 +27,7 @@ impl Reading for FlatBuffers {
     }
 
     fn rows(&self, bytes: &[u8], table: &mut [Row]) -> usize {
-        match rows_of(bytes) {
-            Some(rows) => rows.copy_to(table),
-            None => 0,
-        }
+        rows_of(bytes).map_or(0, |rows| rows.copy_to(table))
     }
 
     fn node(&self, bytes: &[u8], k: usize) -> Option<Node> {

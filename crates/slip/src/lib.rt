@@ -7,7 +7,7 @@ mod facts;
 mod parts;
 mod trailers;
 
-use crate::parts::{slip, told_parts};
+use crate::parts::{Message, told_parts};
 use message::{Buffer, Facts, ItemList, ListSizes, Node, Reading, Refused, Row};
 
 /// The reading of slips.
@@ -18,8 +18,7 @@ impl Reading for Slip {
     ghost meaning = { λ s bytes. slip_meaning bytes };
 
     fn facts(&self, bytes: &[u8]) -> Result<Facts, Refused> {
-        let (trailer, parts) = slip(bytes).ok_or(Refused)?;
-        Ok(trailer.facts(parts))
+        Ok(Message::of(bytes).ok_or(Refused)?.facts())
     }
 
     fn row(&self, bytes: &[u8], k: usize) -> Option<Row> {

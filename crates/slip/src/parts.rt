@@ -72,15 +72,23 @@ impl<'a> Parts<'a> {
     }
 }
 
-// A slip by its trailer and its lists.
-#[tactic(auto, unfolding(crate::specs::Slips::slip_lists))]
-pub(crate) fn slip(bytes: &[u8]) -> Option<(Trailer<'_>, Parts<'_>)>
-    ensures lists { option_map (λ p. lists_in p.1) result ≡ slip_lists bytes.now }
-    ensures bytes { IfSome result (λ p. p.0.bytes.now ≡ bytes.now) }
-{
-    let trailer = Trailer::of(bytes)?;
-    let parts = trailer.parts()?;
-    Some((trailer, parts))
+// A slip: its trailer, and its lists.
+#[derive(Clone, Copy, Debug, PartialEq, Eq)]
+pub(crate) struct Message<'a> {
+    pub(crate) trailer: Trailer<'a>,
+    pub(crate) parts: Parts<'a>,
+}
+
+impl<'a> Message<'a> {
+    #[tactic(auto, unfolding(crate::specs::Slips::slip_lists))]
+    pub(crate) fn of(bytes: &'a [u8]) -> Option<Message<'a>>
+        ensures lists { option_map (λ m. lists_in m.parts) result ≡ slip_lists bytes.now }
+        ensures bytes { IfSome result (λ m. m.trailer.bytes.now ≡ bytes.now) }
+    {
+        let trailer = Trailer::of(bytes)?;
+        let parts = trailer.parts()?;
+        Some(Message { trailer, parts })
+    }
 }
 
 // The lists of the message, which are empty where it has none.
@@ -90,8 +98,8 @@ pub(crate) fn told_parts(bytes: &[u8]) -> Parts<'_>
     ensures buffers { buffers_in result.buffers.bytes.now ≡ buffers_of (slip_meaning bytes.now) }
     ensures counts { counts_in result.counts.bytes.now ≡ counts_of (slip_meaning bytes.now) }
 {
-    match slip(bytes) {
-        Some((trailer, parts)) => parts.chosen(trailer.told(KIND)),
+    match Message::of(bytes) {
+        Some(slip) => slip.parts.chosen(slip.trailer.told(KIND)),
         None => Parts::default(),
     }
 }

@@ -8,7 +8,7 @@ use Rattle.slip.proofs.parts.told_parts.Goals as goal
 pub returns-in-Some : goal.returns-in-Some
 returns-in-Some c =
     let bs = c.args.bytes.now in
-    let l = lists_in c.in-Some.parts in
+    let l = lists_in c.in-Some.slip.parts in
     let s = c.in-Some.ensures.lists in
     let kind : c.told.result ≡ told 1 bs 2 = c.told.ensures ∙ ap (λ b. told 1 b 2) c.in-Some.ensures.bytes in
     record {
@@ -23,8 +23,8 @@ returns-in-None c =
     let bs = c.args.bytes.now in
     let s = c.in-None.ensures.lists in
     record {
-      rows = ap rows_in c.default.ensures.0 ∙ rows_none bs s;
-      nodes = ap nodes_in c.default.ensures.1.0 ∙ nodes_none bs s;
-      buffers = ap buffers_in c.default.ensures.1.1.0 ∙ buffers_none bs s;
-      counts = ap counts_in c.default.ensures.1.1.1 ∙ counts_none bs s;
+      rows = ap rows_in c.default.ensures.0.0 ∙ rows_none bs s;
+      nodes = ap nodes_in c.default.ensures.1.0.0 ∙ nodes_none bs s;
+      buffers = ap buffers_in c.default.ensures.1.1.0.0 ∙ buffers_none bs s;
+      counts = ap counts_in c.default.ensures.1.1.1.0 ∙ counts_none bs s;
     }
