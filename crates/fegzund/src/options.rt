@@ -3,6 +3,7 @@ ghost use Rattle.std.specs.Prelude.{◌≤◌, length};
 ghost use Rattle.std.specs.Vec.Iter.{into_iter_items};
 
 use anyhow::{Result, bail};
+use framing::{LONGEST_BODY, LONGEST_METADATA};
 use std::env::Args;
 use std::str::FromStr;
 
@@ -57,11 +58,6 @@ impl FromStr for Form {
         }
     }
 }
-
-// The longest metadata and the longest body that a frame may have.
-const LONGEST_METADATA: usize = 1048576;
-
-const LONGEST_BODY: usize = 16777216;
 
 #[derive(Drop)]
 pub(crate) struct Options {

@@ -110,6 +110,7 @@ impl<W: Write + Drop> Text<W> {
     }
 }
 
+// Most numbers have one digit, so that is asked first.
 fn digit_count(n: u64) -> usize
     ensures enough { length (decimal n) ≤ result }
     ensures most { result ≤ DIGITS }

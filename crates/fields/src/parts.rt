@@ -22,6 +22,7 @@ pub struct Field {
     pub children: Children,
 }
 
-/// Fields that give no rows: one leaves the bytes, or is too deep, or there is no room for its row.
+/// Fields that give no rows: one leaves the bytes, or is too deep, or there is no room for its row. The error of the walks
+/// alone: `Refused` of `message` says that all metadata are refused.
 #[derive(Clone, Copy, Debug, PartialEq, Eq, Hash)]
 pub struct Refused;

@@ -31,7 +31,7 @@ pub fn children_of(table: TableIn, slot: u8) -> Option<Children>
 fn index_row(int: Typed, id: i64) -> Index
     ensures { result ≡ index_row int id }
 {
-    if int.kind == 0 {
+    if int.kind == kinds::OTHER {
         return Index::default();
     }
     let row = Typed {

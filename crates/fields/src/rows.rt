@@ -53,6 +53,7 @@ impl Rows {
     pub(crate) fn push(&mut self, row: Row) -> Result<(), Refused>
         ensures { MatchResult result (λ _. held self.new ≡ held self.old ++ (row ∷ [])) (λ _. 256 ≤ length (held self.old)) }
     {
+        // no `try_push`, which hands the row back: the walks were slower with it
         if self.items.is_full() {
             return Err(Refused);
         }

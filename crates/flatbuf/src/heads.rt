@@ -31,7 +31,9 @@ fn header_table(message: &TableIn, number: u8) -> Option<HeaderTable>
     match number {
         headers::NONE => Some(HeaderTable::Empty),
         headers::SCHEMA => message.target(2)?.map(|at| HeaderTable::Schema { at }),
-        headers::DICTIONARY_BATCH => message.target(2)?.map(|at| HeaderTable::DictionaryBatch { at }),
+        headers::DICTIONARY_BATCH => message
+            .target(2)?
+            .map(|at| HeaderTable::DictionaryBatch { at }),
         headers::RECORD_BATCH => message.target(2)?.map(|at| HeaderTable::RecordBatch { at }),
         number => Some(HeaderTable::Other { number }),
     }

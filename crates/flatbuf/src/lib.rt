@@ -27,7 +27,11 @@ impl Reading for FlatBuffers {
     }
 
     fn rows(&self, bytes: &[u8], table: &mut [Row]) -> usize {
-        rows_of(bytes).map_or(0, |rows| rows.copy_to(table))
+        // no `map_or`: tried, and the proof of what the table then holds did not close
+        match rows_of(bytes) {
+            Some(rows) => rows.copy_to(table),
+            None => 0,
+        }
     }
 
     fn node(&self, bytes: &[u8], k: usize) -> Option<Node> {

@@ -8,7 +8,7 @@ ghost use Rattle.framing.specs.Views.{Own, Advances, Ends};
 
 use crate::events::{Event, FrameHead, Step};
 use crate::openings::{Opening, OpeningBytes};
-use crate::state::{DecoderState, FrameDecoder};
+use crate::state::{DecoderState, FrameDecoder, LONGEST_BODY, LONGEST_METADATA};
 use little::Little;
 use message::{Facts, Fault, Place, Reading, Refusal};
 
@@ -54,7 +54,8 @@ fn body_length(facts: &Facts, hold: usize) -> Option<usize>
         .filter(|length| *length <= hold)
 }
 
-// Bytes of the rest go into the hold, behind the `got` that are there, until it has `most`; how many they are.
+// Bytes of the rest go into the hold, behind the `got` that are there, until it has `most`; how many they are. It takes the
+// whole hold, and not the part to fill, since the definition says what the others are.
 pub(crate) fn fill(hold: &mut [u8], got: usize, most: usize, rest: &[u8]) -> usize
     requires most { most ≤ length hold.old }
     requires got { got ≤ most }
@@ -70,7 +71,7 @@ impl FrameDecoder {
     pub fn new(metadata: usize, body: usize) -> Result<FrameDecoder, Fault>
         ensures { Opens (record { metadata = metadata; body = body }) result }
     {
-        if metadata == 0 || metadata > 1048576 || body > 16777216 {
+        if metadata == 0 || metadata > LONGEST_METADATA || body > LONGEST_BODY {
             return Err(Refusal::Lengths.bare());
         }
         Ok(FrameDecoder {
@@ -202,9 +203,8 @@ impl FrameDecoder {
         let Some(body) = body_length(&facts, self.body) else {
             return Err(self.stop(Refusal::BodyLength));
         };
-        let place = self.place;
         let head = FrameHead {
-            place,
+            place: self.place,
             opening,
             facts,
             body,

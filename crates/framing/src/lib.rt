@@ -9,4 +9,4 @@ pub mod state;
 
 pub use events::{Event, FrameHead, Step};
 pub use openings::Opening;
-pub use state::FrameDecoder;
+pub use state::{FrameDecoder, LONGEST_BODY, LONGEST_METADATA};

@@ -36,6 +36,7 @@ pub struct OpeningBytes {
     ghost more: { got < opening (marks (take got bytes)) },
 }
 
+// By hand: no derive knows the bound above.
 impl Default for OpeningBytes {
     ghost is_default = { λ s. s.got ≡ 0 };
 

@@ -6,6 +6,11 @@ use crate::events::FrameHead;
 use crate::openings::{Opening, OpeningBytes};
 use message::{Fault, Place};
 
+/// The longest metadata and the longest body that a decoder may have room for.
+pub const LONGEST_METADATA: usize = 1048576;
+
+pub const LONGEST_BODY: usize = 16777216;
+
 #[derive(Clone, Copy, Debug, PartialEq, Eq, Hash)]
 pub enum DecoderState {
     // between two frames, or in an opening
@@ -24,7 +29,7 @@ pub struct FrameDecoder {
     pub(crate) metadata: usize,
     pub(crate) body: usize,
     pub(crate) state: DecoderState,
-    // of the frame that the state is in, or of the next
+    // of the next frame, or of the one whose opening or metadata are read; a body has its head's
     pub(crate) place: Place,
     ghost few: { metadata ≤ 1048576 },
     ghost limited: { body ≤ 16777216 },

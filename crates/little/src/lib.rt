@@ -11,8 +11,10 @@ pub trait Little: Sized {
 
     ghost WIDTH: { ℕ };
 
+    // what so many bytes from a place on are read as
     ghost number: { List ℕ → ℕ → Self };
 
+    // the same, where the bytes are there
     ghost number_at: { List ℕ → ℕ → Option Self };
 
     // What stands at a place, where the bytes have it whole.

@@ -43,7 +43,7 @@ pub(crate) fn lay<T: Copy, F: Fn(usize) -> Option<T>>(table: &mut [T], item: F) 
 #[derive(Clone, Copy, Debug, Default, PartialEq, Eq)]
 pub struct Items<'a, T> {
     pub bytes: &'a [u8],
-    pub of: PhantomData<T>,
+    of: PhantomData<T>,
 }
 
 impl<'a, T> Items<'a, T> {

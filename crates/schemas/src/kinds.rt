@@ -31,6 +31,7 @@ pub enum Kind {
 #[derive(Clone, Copy, Debug, PartialEq, Eq, Hash)]
 pub struct NoKind(pub u8);
 
+// The numbers are those of `types`, on which this crate stands; a derive makes no kind of a number.
 impl TryFrom<u8> for Kind {
     type Error = NoKind;
 

@@ -1,4 +1,7 @@
 // The kinds of rows: numbers, as a row has them, which `Kind` of the crate `schemas` is made of.
+/// A type that has no row kind.
+pub const OTHER: u8 = 0;
+
 pub const NULL: u8 = 1;
 
 pub const BOOL: u8 = 2;

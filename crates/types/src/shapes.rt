@@ -1,6 +1,7 @@
 // What a type says of its row and of its children's.
 
-/// Kind, flag and parameter of a row, as `Row` has them. The default is the row of a type that has no row kind.
+/// Kind, flag and parameter of a row, as `Row` has them. The default is the row of a type that
+/// has no row kind: a number of its own, so no `Option`.
 #[derive(Clone, Copy, Debug, Default, PartialEq, Eq, Hash)]
 pub struct Typed {
     pub kind: u8,

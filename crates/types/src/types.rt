@@ -103,7 +103,7 @@ fn map_shape(field: TableIn) -> Option<Shape>
 {
     let there = field.has(3)?;
     let row = Typed {
-        kind: if there { kinds::LIST } else { 0 },
+        kind: if there { kinds::LIST } else { kinds::OTHER },
         ..Typed::default()
     };
     Some(Shape::plain(row))

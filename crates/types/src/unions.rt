@@ -25,7 +25,7 @@ fn ids_fit(ids: &[u8], n: u32) -> bool
     ids.iter().all(fits)
 }
 
-// The tags of `n` children, where the type ids at `ids` can be used.
+// The tags of `n` children, where the type ids at `ids` can be used; nothing at all where they leave the bytes.
 fn tags(bytes: &[u8], n: u32, ids: Option<usize>) -> Option<Option<Tags>>
     ensures { result ≡ tags_of bytes.now n ids }
 {
