@@ -1,4 +1,4 @@
-use Rattle.std.proofs.Common.{◌≡◌, Some, None, Ok, Err, rules, ◌∙◌, ap}
+use Rattle.std.proofs.Common.{◌≡◌, Some, None, Err, rules, ◌∙◌, ap}
 use Rattle.slip.specs.Shown.{lists_in}
 use Rattle.slip.specs.Slips.{message_of, slip_lists}
 use Rattle.message.specs.Messages.{facts_of}
