@@ -65,6 +65,7 @@ fn index_at(bytes: &[u8], at: usize) -> Option<Index>
     Some(index_row(int, id))
 }
 
+// By the place, as the definition goes: the dictionary's table is read behind the test for none.
 fn index_of(bytes: &[u8], dictionary: Option<usize>) -> Option<Option<Index>>
     ensures { result ≡ index_of bytes.now dictionary }
 {

@@ -14,6 +14,7 @@ use crate::schemas::schema_at;
 use fields::Rows;
 use message::{BatchFacts, Facts, Header};
 
+// No `From`: its clause would say the same under another name.
 fn batch_facts(batch: Batch) -> BatchFacts
     ensures { result ≡ batch_facts (columns_in (parts_in batch.entry)) }
 {

@@ -77,6 +77,7 @@ pub(crate) fn batch_at(bytes: &[u8], at: usize) -> Option<Batch<'_>>
     Some(parts_of(long, nodes, buffers, compressed, counts))
 }
 
+// By the place, as the definition goes: the batch's table is read behind the test for none.
 fn data_at(bytes: &[u8], list: Option<usize>) -> Option<Batch<'_>>
     ensures { option_map parts_in result ≡ data_at bytes.now list }
 {

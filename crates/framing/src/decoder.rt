@@ -82,7 +82,8 @@ impl FrameDecoder {
         })
     }
 
-    // Takes bytes of the piece until a frame is whole, a byte is refused or the piece is used up.
+    // Takes bytes of the piece until a frame is whole, a byte is refused or the piece is used up. Reading and holds are the
+    // caller's, lent to each call, so no struct has them.
     pub fn advance<R: Reading>(
         &mut self,
         reading: &R,

@@ -39,6 +39,7 @@ impl Node {
     }
 }
 
+// Written out, as the impls of numbers are, and as that of `Row`.
 impl Little for Node {
     const WIDTH: usize = 16;
 

@@ -59,8 +59,7 @@ pub trait Reading {
         lay(table, |k| self.row(bytes, k))
     }
 
-    // The other lists at once: each puts its items at the front of a table, as many as there are and it has room for, and
-    // answers how many.
+    // Another list: its items at the front of a table, as many as there are and it has room for; how many they are.
     fn nodes(&self, bytes: &[u8], table: &mut [Node]) -> usize
         ensures { Lays (nodes_of (meaning self.now bytes.now)) table.old result table.new }
     {

@@ -7,7 +7,7 @@ use little::Little;
 // The bytes of a trailer.
 pub(crate) const TRAILER: usize = 64;
 
-// What the trailer says, by its place there.
+// What the trailer says, by its place there. No struct of it all: most questions ask for a few of the numbers.
 pub(crate) const VERSION: usize = 0;
 
 pub(crate) const KIND: usize = 2;
