@@ -19,7 +19,7 @@ pub(crate) struct Message<'a, F> {
     pub(crate) bytes: &'a [u8],
 }
 
-// Where the lines go, and tables for the items of a batch.
+// Where the lines go, and tables for the items of a batch: arrays, since slices of them are lent to the reading.
 #[derive(Drop)]
 pub(crate) struct Listing<W: Write + Drop> {
     text: Text<W>,
