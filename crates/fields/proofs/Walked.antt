@@ -145,21 +145,7 @@ module _ (bs : List ℕ) (before p tag : ℕ) where
 
 -- m rows are kept at the front of a field's own, its children's are read behind them, and then they are put there
 module _ (kids : ℕ → Option (List Row)) (rows_by : List Row → List Row) (m : ℕ) (long : (ks : List Row) → length (rows_by ks) ≡ m + length ks) (xs : List Row) where
-  over_all : (o : Option (List Row)) → ((ks : List Row) → o ≡ Some ks → 256 < length xs + (m + length ks)) → Over (option_map rows_by o) xs
-  over_all None h = none_over refl
-  over_all (Some ks) h = record {
-    over = λ rows d.
-        let e : rows ≡ rows_by ks = cc in
-        omega (arith, h ks refl, ap length e, long ks);
-  }
-
-  pub no_room : 256 < length xs + m → Over (option_map rows_by (kids (length xs + m))) xs
-  no_room h = over_all (kids (length xs + m)) (λ ks d. omega arith)
-
   module _ (xs₁ : List Row) (kept : length xs₁ ≡ length xs + m) where
-    pub kids_over : Over (kids (length xs₁)) xs₁ → Over (option_map rows_by (kids (length xs + m))) xs
-    kids_over h = over_all (kids (length xs + m)) (λ ks d. let l = h.over ks (ap kids kept ∙ d) in omega (arith, l, kept))
-
     pub kids_read : (xs₂ xs₃ : List Row) (got : Reads (kids (length xs₁)) (Ok tt) xs₁ xs₂) → xs₃ ≡ xs ++ rows_by got.0 → Reads (option_map rows_by (kids (length xs + m))) (Ok tt) xs xs₃
     kids_read xs₂ xs₃ got e = (rows_by got.0, ap (option_map rows_by) (ap kids (sym kept) ∙ got.1), e)
 

@@ -43,7 +43,7 @@ fn row_of(of: Typed, tag: u8, id: i64, end: usize) -> Row
     }
 }
 
-// Plain functions that call each other, and no struct for what they hand on: that is the form asked for here.
+// Plain functions that call each other, and no struct for what they hand on: that is the form of nested fields here.
 
 // Fields, one after the other: each whole before the next.
 #[cycle(walk)]
