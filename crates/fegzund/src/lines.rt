@@ -1,7 +1,8 @@
 // The lines of a listing, each of 256 bytes at most. By hand: text.rt says why.
-ghost use Rattle.std.specs.Prelude.{◌+◌, ◌≤◌, length};
+ghost use Rattle.std.specs.Prelude.{◌+◌, ◌≤◌, length, OnOk};
+ghost use Rattle.fegzund.specs.declared.text.TheConstants.{LINE, ROOM};
 
-use crate::text::{ROOM, Text};
+use crate::text::Text;
 use framing::FrameHead;
 use message::{BatchFacts, Buffer, Fault, Node, Place, Row};
 use std::io;
@@ -10,20 +11,25 @@ use std::io::Write;
 // The number and the place of a frame.
 fn placed<W: Write + Drop>(text: &mut Text<W>, word: &str, place: &Place)
     requires { text.old.len + length word.now + 50 ≤ ROOM }
-    ensures { text.new.len ≤ text.old.len + length word.now + 50 }
+    ensures least { text.old.len ≤ text.new.len }
+    ensures most { text.new.len ≤ text.old.len + length word.now + 50 }
 {
     text.number(word, place.message);
     text.number(" position ", place.position);
 }
 
-pub(crate) fn end_mark<W: Write + Drop>(text: &mut Text<W>, place: &Place) -> io::Result<()> {
+pub(crate) fn end_mark<W: Write + Drop>(text: &mut Text<W>, place: &Place) -> io::Result<()>
+    ensures { OnOk result (text.new.len ≤ text.old.len + LINE) }
+{
     text.make_room()?;
     placed(text, "end ", place);
     text.word("\n");
     Ok(())
 }
 
-pub(crate) fn frame<W: Write + Drop>(text: &mut Text<W>, head: &FrameHead) -> io::Result<()> {
+pub(crate) fn frame<W: Write + Drop>(text: &mut Text<W>, head: &FrameHead) -> io::Result<()>
+    ensures { OnOk result (text.new.len ≤ text.old.len + LINE) }
+{
     text.make_room()?;
     placed(text, "frame ", &head.place);
     text.mark(" marker ", head.opening.marked);
@@ -35,7 +41,9 @@ pub(crate) fn frame<W: Write + Drop>(text: &mut Text<W>, head: &FrameHead) -> io
     Ok(())
 }
 
-pub(crate) fn row<W: Write + Drop>(text: &mut Text<W>, k: usize, row: &Row) -> io::Result<()> {
+pub(crate) fn row<W: Write + Drop>(text: &mut Text<W>, k: usize, row: &Row) -> io::Result<()>
+    ensures { OnOk result (text.new.len ≤ text.old.len + LINE) }
+{
     text.make_room()?;
     text.number("row ", k as u64);
     text.number(" kind ", u64::from(row.kind));
@@ -51,6 +59,8 @@ pub(crate) fn row<W: Write + Drop>(text: &mut Text<W>, k: usize, row: &Row) -> i
 // What a batch says of itself, up to the end of the line.
 fn facts<W: Write + Drop>(text: &mut Text<W>, facts: &BatchFacts)
     requires { text.old.len + 141 ≤ ROOM }
+    ensures least { text.old.len ≤ text.new.len }
+    ensures most { text.new.len ≤ text.old.len + 141 }
 {
     text.signed(" length ", facts.length);
     text.mark(" compressed ", facts.compressed);
@@ -61,7 +71,9 @@ fn facts<W: Write + Drop>(text: &mut Text<W>, facts: &BatchFacts)
     text.word("\n");
 }
 
-pub(crate) fn batch<W: Write + Drop>(text: &mut Text<W>, data: &BatchFacts) -> io::Result<()> {
+pub(crate) fn batch<W: Write + Drop>(text: &mut Text<W>, data: &BatchFacts) -> io::Result<()>
+    ensures { OnOk result (text.new.len ≤ text.old.len + LINE) }
+{
     text.make_room()?;
     text.word("batch");
     facts(text, data);
@@ -73,7 +85,9 @@ pub(crate) fn dictionary<W: Write + Drop>(
     id: i64,
     delta: bool,
     data: &BatchFacts,
-) -> io::Result<()> {
+) -> io::Result<()>
+    ensures { OnOk result (text.new.len ≤ text.old.len + LINE) }
+{
     text.make_room()?;
     text.signed("dictionary id ", id);
     text.mark(" delta ", delta);
@@ -81,7 +95,9 @@ pub(crate) fn dictionary<W: Write + Drop>(
     Ok(())
 }
 
-pub(crate) fn node<W: Write + Drop>(text: &mut Text<W>, k: usize, node: &Node) -> io::Result<()> {
+pub(crate) fn node<W: Write + Drop>(text: &mut Text<W>, k: usize, node: &Node) -> io::Result<()>
+    ensures { OnOk result (text.new.len ≤ text.old.len + LINE) }
+{
     text.make_room()?;
     text.number("node ", k as u64);
     text.signed(" length ", node.length);
@@ -94,7 +110,9 @@ pub(crate) fn buffer<W: Write + Drop>(
     text: &mut Text<W>,
     k: usize,
     buffer: &Buffer,
-) -> io::Result<()> {
+) -> io::Result<()>
+    ensures { OnOk result (text.new.len ≤ text.old.len + LINE) }
+{
     text.make_room()?;
     text.number("buffer ", k as u64);
     text.signed(" offset ", buffer.offset);
@@ -103,7 +121,9 @@ pub(crate) fn buffer<W: Write + Drop>(
     Ok(())
 }
 
-pub(crate) fn count<W: Write + Drop>(text: &mut Text<W>, k: usize, value: &i64) -> io::Result<()> {
+pub(crate) fn count<W: Write + Drop>(text: &mut Text<W>, k: usize, value: &i64) -> io::Result<()>
+    ensures { OnOk result (text.new.len ≤ text.old.len + LINE) }
+{
     text.make_room()?;
     text.number("count ", k as u64);
     text.signed(" value ", *value);
@@ -111,7 +131,9 @@ pub(crate) fn count<W: Write + Drop>(text: &mut Text<W>, k: usize, value: &i64) 
     Ok(())
 }
 
-pub(crate) fn refused<W: Write + Drop>(text: &mut Text<W>, fault: &Fault) -> io::Result<()> {
+pub(crate) fn refused<W: Write + Drop>(text: &mut Text<W>, fault: &Fault) -> io::Result<()>
+    ensures { OnOk result (text.new.len ≤ text.old.len + LINE) }
+{
     text.make_room()?;
     text.number("refused ", u64::from(fault.refusal.number()));
     if let Some(place) = &fault.place {
@@ -121,10 +143,9 @@ pub(crate) fn refused<W: Write + Drop>(text: &mut Text<W>, fault: &Fault) -> io:
     Ok(())
 }
 
-pub(crate) fn finish<W: Write + Drop>(
-    text: &mut Text<W>,
-    end: &Result<(), Fault>,
-) -> io::Result<()> {
+pub(crate) fn finish<W: Write + Drop>(text: &mut Text<W>, end: &Result<(), Fault>) -> io::Result<()>
+    ensures { OnOk result (text.new.len ≤ text.old.len + LINE) }
+{
     text.make_room()?;
     match end {
         Ok(()) => text.word("finish ok\n"),

@@ -10,7 +10,7 @@ use std::io::{Result, Write};
 pub(crate) const ROOM: usize = 65536;
 
 // How many bytes a line has at most.
-const LINE: usize = 256;
+pub(crate) const LINE: usize = 256;
 
 // How many digits a number has at most.
 const DIGITS: usize = 20;
@@ -20,7 +20,7 @@ const DIGITS: usize = 20;
 pub(crate) struct Text<W: Write + Drop> {
     out: W,
     bytes: [u8; ROOM],
-    pub(crate) len: usize,
+    len: usize,
     ghost within: { len ≤ ROOM },
 }
 
@@ -45,7 +45,8 @@ impl<W: Write + Drop> Text<W> {
     // Writes the text where there may be no room for another line.
     #[inline(always)]
     pub(crate) fn make_room(&mut self) -> Result<()>
-        ensures { OnOk result (self.new.len + LINE ≤ ROOM) }
+        ensures room { OnOk result (self.new.len + LINE ≤ ROOM) }
+        ensures less { OnOk result (self.new.len ≤ self.old.len) }
     {
         if self.len > ROOM - LINE {
             self.flush()?;
@@ -66,7 +67,8 @@ impl<W: Write + Drop> Text<W> {
     #[inline(always)]
     fn digits(&mut self, n: u64)
         requires { self.old.len + DIGITS ≤ ROOM }
-        ensures { self.new.len ≤ self.old.len + DIGITS }
+        ensures least { self.old.len ≤ self.new.len }
+        ensures most { self.new.len ≤ self.old.len + DIGITS }
     {
         let end = self.len + digit_count(n);
         write_digits(n, &mut self.bytes, end);
@@ -77,7 +79,8 @@ impl<W: Write + Drop> Text<W> {
     #[inline(always)]
     pub(crate) fn number(&mut self, word: &str, n: u64)
         requires { self.old.len + length word.now + DIGITS ≤ ROOM }
-        ensures { self.new.len ≤ self.old.len + length word.now + DIGITS }
+        ensures least { self.old.len ≤ self.new.len }
+        ensures most { self.new.len ≤ self.old.len + length word.now + DIGITS }
     {
         self.word(word);
         self.digits(n);
@@ -86,7 +89,8 @@ impl<W: Write + Drop> Text<W> {
     #[inline(always)]
     pub(crate) fn signed(&mut self, word: &str, n: i64)
         requires { self.old.len + length word.now + 1 + DIGITS ≤ ROOM }
-        ensures { self.new.len ≤ self.old.len + length word.now + 1 + DIGITS }
+        ensures least { self.old.len ≤ self.new.len }
+        ensures most { self.new.len ≤ self.old.len + length word.now + 1 + DIGITS }
     {
         self.word(word);
         if n < 0 {
@@ -99,7 +103,8 @@ impl<W: Write + Drop> Text<W> {
     #[inline(always)]
     pub(crate) fn mark(&mut self, word: &str, mark: bool)
         requires { self.old.len + length word.now + 3 ≤ ROOM }
-        ensures { self.new.len ≤ self.old.len + length word.now + 3 }
+        ensures least { self.old.len ≤ self.new.len }
+        ensures most { self.new.len ≤ self.old.len + length word.now + 3 }
     {
         self.word(word);
         if mark {

@@ -46,7 +46,19 @@ impl Reading for FlatBuffers {
         batch_of(bytes).counts.get(k)
     }
 
-    // The batch is looked for once.
+    // The batch is looked for once, here and in the three that follow.
+    fn nodes(&self, bytes: &[u8], table: &mut [Node]) -> usize {
+        batch_of(bytes).nodes.copy_to(table)
+    }
+
+    fn buffers(&self, bytes: &[u8], table: &mut [Buffer]) -> usize {
+        batch_of(bytes).buffers.copy_to(table)
+    }
+
+    fn counts(&self, bytes: &[u8], table: &mut [i64]) -> usize {
+        batch_of(bytes).counts.copy_to(table)
+    }
+
     fn lists(
         &self,
         bytes: &[u8],

@@ -49,7 +49,7 @@ impl Default for OpeningBytes {
 }
 
 impl OpeningBytes {
-    ghost use Rattle.std.specs.Prelude.{◌==◌, [], ◌∷◌, ◌++◌, Some, length, MatchResult};
+    ghost use Rattle.std.specs.Prelude.{◌==◌, ◌-◌, min, [], ◌∷◌, ◌++◌, Some, length, MatchResult};
     ghost use Rattle.framing.specs.Turns.{opening_in};
 
     pub(crate) fn is_empty(self) -> bool
@@ -61,6 +61,7 @@ impl OpeningBytes {
     // Takes all but the last of the bytes that are known to belong to the opening; how many they are.
     pub(crate) fn fill(&mut self, rest: &[u8]) -> usize
         requires { 0 < length rest.now }
+        ensures all { result ≡ min (opening (marks (take self.old.got self.old.bytes)) - 1 - self.old.got) (length rest.now - 1) }
         ensures count { result < length rest.now }
         ensures bytes { take self.new.got self.new.bytes ≡ take self.old.got self.old.bytes ++ take result rest.now }
     {

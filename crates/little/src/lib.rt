@@ -51,6 +51,7 @@ impl Little for u8 {
 
     ghost cut = { number_outside 1 };
 
+    #[tactic(auto, using(crate::proofs::Spelled::byte_read))]
     fn read_at(bytes: &[u8], at: usize) -> Option<u8> {
         bytes.get(at).copied()
     }

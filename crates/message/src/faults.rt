@@ -5,71 +5,72 @@ ghost use Rattle.message.specs.Faults.{bare, number_of, placed};
 use std::error::Error;
 use std::fmt;
 
+// In the order of their numbers, which are one more than their discriminants.
 #[derive(Clone, Copy, Debug, PartialEq, Eq, Hash)]
 pub enum Refusal {
     // a memory's length is out of bounds, or not the one that it had at first
-    Lengths = 1,
+    Lengths,
     // more than 64 column numbers
-    ChoiceLength = 2,
+    ChoiceLength,
     // a byte behind the end of the stream
-    BehindEnd = 3,
+    BehindEnd,
     // metadata longer than their hold
-    MetadataSize = 4,
+    MetadataSize,
     // metadata that the reading refuses
-    Metadata = 5,
+    Metadata,
     // a body length below 0, or above the body's hold
-    BodyLength = 6,
+    BodyLength,
     // a header type above 3
-    HeaderType = 7,
+    HeaderType,
     // a schema where there is one already
-    SecondSchema = 8,
+    SecondSchema,
     // rows that are no schema
-    Rows = 9,
+    Rows,
     // a batch before the schema
-    NoSchema = 10,
+    NoSchema,
     // a dictionary batch whose id no field has
-    NoSuchId = 11,
+    NoSuchId,
     // a compressed batch, or one without its lists
-    Marks = 12,
+    Marks,
     // more nodes, buffers or counts than their table has room for
-    ListLength = 13,
+    ListLength,
     // a row without its node
-    NoNode = 14,
+    NoNode,
     // a node that is no length with a null count
-    NodeRange = 15,
+    NodeRange,
     // a view without its count, or with more buffers than are left
-    ViewCount = 16,
+    ViewCount,
     // a row without one of its buffers
-    NoBuffer = 17,
+    NoBuffer,
     // a buffer that does not lie within the body
-    BufferRange = 18,
+    BufferRange,
     // a column that breaks a rule of its kind
-    Rule = 19,
+    Rule,
     // a chosen number that names no column
-    NoSuchColumn = 20,
+    NoSuchColumn,
     // counts that no view takes
-    CountsLeft = 21,
+    CountsLeft,
     // a batch length out of bounds, or unlike that of a shown column
-    BatchLength = 22,
+    BatchLength,
     // a delta for an id that is not held
-    DeltaFirst = 23,
+    DeltaFirst,
     // more ids, or more values, than the store has room for
-    Room = 24,
+    Room,
     // the stream stops inside a frame
-    Unfinished = 25,
+    Unfinished,
     // no batch is current
-    NoBatch = 26,
+    NoBatch,
     // a number that is not below its count
-    OutOfRange = 27,
+    OutOfRange,
     // a memory was changed, so that a rule no longer holds
-    Changed = 28,
+    Changed,
 }
 
 impl Refusal {
     pub fn number(self) -> u8
         ensures { result ≡ number_of self }
     {
-        self as u8
+        self as u8 + 1
     }
 
     // The refusal of a call, which no frame brought about. A method, and not `From`: a refusal gives a fault in two ways.

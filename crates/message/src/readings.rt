@@ -59,26 +59,27 @@ pub trait Reading {
         lay(table, |k| self.row(bytes, k))
     }
 
-    // Another list: its items at the front of a table, as many as there are and it has room for; how many they are.
+    // The other lists: each puts its items at the front of a table, as many as there are and it has room for, and answers how
+    // many.
     fn nodes(&self, bytes: &[u8], table: &mut [Node]) -> usize
         ensures { Lays (nodes_of (meaning self.now bytes.now)) table.old result table.new }
     {
-        self.lists(bytes, table, &mut [], &mut []).nodes
+        lay(table, |k| self.node(bytes, k))
     }
 
     fn buffers(&self, bytes: &[u8], table: &mut [Buffer]) -> usize
         ensures { Lays (buffers_of (meaning self.now bytes.now)) table.old result table.new }
     {
-        self.lists(bytes, &mut [], table, &mut []).buffers
+        lay(table, |k| self.buffer(bytes, k))
     }
 
     fn counts(&self, bytes: &[u8], table: &mut [i64]) -> usize
         ensures { Lays (counts_of (meaning self.now bytes.now)) table.old result table.new }
     {
-        self.lists(bytes, &mut [], &mut [], table).counts
+        lay(table, |k| self.count(bytes, k))
     }
 
-    // Nodes, buffers and counts together. The three questions before ask this one, so a body of it asks none of them.
+    // Nodes, buffers and counts together: as a reading has each.
     fn lists(
         &self,
         bytes: &[u8],
@@ -91,9 +92,9 @@ pub trait Reading {
         ensures counts { Lays (counts_of (meaning self.now bytes.now)) counts.old result.counts counts.new }
     {
         ListSizes {
-            nodes: lay(nodes, |k| self.node(bytes, k)),
-            buffers: lay(buffers, |k| self.buffer(bytes, k)),
-            counts: lay(counts, |k| self.count(bytes, k)),
+            nodes: self.nodes(bytes, nodes),
+            buffers: self.buffers(bytes, buffers),
+            counts: self.counts(bytes, counts),
         }
     }
 }

@@ -41,7 +41,19 @@ impl Reading for Slip {
         told_parts(bytes).rows.copy_to(table)
     }
 
-    // The parts are looked for once.
+    // The parts are looked for once, here and in the three that follow.
+    fn nodes(&self, bytes: &[u8], table: &mut [Node]) -> usize {
+        told_parts(bytes).nodes.copy_to(table)
+    }
+
+    fn buffers(&self, bytes: &[u8], table: &mut [Buffer]) -> usize {
+        told_parts(bytes).buffers.copy_to(table)
+    }
+
+    fn counts(&self, bytes: &[u8], table: &mut [i64]) -> usize {
+        told_parts(bytes).counts.copy_to(table)
+    }
+
     fn lists(
         &self,
         bytes: &[u8],

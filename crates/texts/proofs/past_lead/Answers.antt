@@ -1,6 +1,6 @@
 use Rattle.std.proofs.Common.{rules}
 use Rattle.texts.proofs.Shapes.{broken}
-use Rattle.texts.proofs.past_char.Goals as goal
+use Rattle.texts.proofs.past_lead.Goals as goal
 
 pub returns-in_default : goal.returns-in_default
 returns-in_default c =
