@@ -1,4 +1,5 @@
-// The lines of a listing, each of 256 bytes at most. By hand: text.rt says why.
+// The lines of a listing, each of 256 bytes at most. By hand: text.rt says why. Room is made before a line's words; these
+// have their own functions, whose clauses say that the text only grows, so that none is written in the middle of a line.
 ghost use Rattle.std.specs.Prelude.{◌+◌, ◌≤◌, length, OnOk};
 ghost use Rattle.fegzund.specs.declared.text.TheConstants.{LINE, ROOM};
 
@@ -22,15 +23,32 @@ pub(crate) fn end_mark<W: Write + Drop>(text: &mut Text<W>, place: &Place) -> io
     ensures { OnOk result (text.new.len ≤ text.old.len + LINE) }
 {
     text.make_room()?;
+    end_mark_words(text, place);
+    Ok(())
+}
+
+fn end_mark_words<W: Write + Drop>(text: &mut Text<W>, place: &Place)
+    requires { text.old.len + LINE ≤ ROOM }
+    ensures least { text.old.len ≤ text.new.len }
+    ensures most { text.new.len ≤ text.old.len + LINE }
+{
     placed(text, "end ", place);
     text.word("\n");
-    Ok(())
 }
 
 pub(crate) fn frame<W: Write + Drop>(text: &mut Text<W>, head: &FrameHead) -> io::Result<()>
     ensures { OnOk result (text.new.len ≤ text.old.len + LINE) }
 {
     text.make_room()?;
+    frame_words(text, head);
+    Ok(())
+}
+
+fn frame_words<W: Write + Drop>(text: &mut Text<W>, head: &FrameHead)
+    requires { text.old.len + LINE ≤ ROOM }
+    ensures least { text.old.len ≤ text.new.len }
+    ensures most { text.new.len ≤ text.old.len + LINE }
+{
     placed(text, "frame ", &head.place);
     text.mark(" marker ", head.opening.marked);
     text.number(" size ", head.opening.size as u64);
@@ -38,13 +56,21 @@ pub(crate) fn frame<W: Write + Drop>(text: &mut Text<W>, head: &FrameHead) -> io
     text.number(" type ", u64::from(head.facts.header.number()));
     text.number(" body ", head.body as u64);
     text.word("\n");
-    Ok(())
 }
 
 pub(crate) fn row<W: Write + Drop>(text: &mut Text<W>, k: usize, row: &Row) -> io::Result<()>
     ensures { OnOk result (text.new.len ≤ text.old.len + LINE) }
 {
     text.make_room()?;
+    row_words(text, k, row);
+    Ok(())
+}
+
+fn row_words<W: Write + Drop>(text: &mut Text<W>, k: usize, row: &Row)
+    requires { text.old.len + LINE ≤ ROOM }
+    ensures least { text.old.len ≤ text.new.len }
+    ensures most { text.new.len ≤ text.old.len + LINE }
+{
     text.number("row ", k as u64);
     text.number(" kind ", u64::from(row.kind));
     text.number(" flag ", u64::from(row.flag));
@@ -53,7 +79,6 @@ pub(crate) fn row<W: Write + Drop>(text: &mut Text<W>, k: usize, row: &Row) -> i
     text.signed(" id ", row.id);
     text.number(" end ", u64::from(row.end));
     text.word("\n");
-    Ok(())
 }
 
 // What a batch says of itself, up to the end of the line.
@@ -75,9 +100,17 @@ pub(crate) fn batch<W: Write + Drop>(text: &mut Text<W>, data: &BatchFacts) -> i
     ensures { OnOk result (text.new.len ≤ text.old.len + LINE) }
 {
     text.make_room()?;
+    batch_words(text, data);
+    Ok(())
+}
+
+fn batch_words<W: Write + Drop>(text: &mut Text<W>, data: &BatchFacts)
+    requires { text.old.len + LINE ≤ ROOM }
+    ensures least { text.old.len ≤ text.new.len }
+    ensures most { text.new.len ≤ text.old.len + LINE }
+{
     text.word("batch");
     facts(text, data);
-    Ok(())
 }
 
 pub(crate) fn dictionary<W: Write + Drop>(
@@ -89,21 +122,37 @@ pub(crate) fn dictionary<W: Write + Drop>(
     ensures { OnOk result (text.new.len ≤ text.old.len + LINE) }
 {
     text.make_room()?;
+    dictionary_words(text, id, delta, data);
+    Ok(())
+}
+
+fn dictionary_words<W: Write + Drop>(text: &mut Text<W>, id: i64, delta: bool, data: &BatchFacts)
+    requires { text.old.len + LINE ≤ ROOM }
+    ensures least { text.old.len ≤ text.new.len }
+    ensures most { text.new.len ≤ text.old.len + LINE }
+{
     text.signed("dictionary id ", id);
     text.mark(" delta ", delta);
     facts(text, data);
-    Ok(())
 }
 
 pub(crate) fn node<W: Write + Drop>(text: &mut Text<W>, k: usize, node: &Node) -> io::Result<()>
     ensures { OnOk result (text.new.len ≤ text.old.len + LINE) }
 {
     text.make_room()?;
+    node_words(text, k, node);
+    Ok(())
+}
+
+fn node_words<W: Write + Drop>(text: &mut Text<W>, k: usize, node: &Node)
+    requires { text.old.len + LINE ≤ ROOM }
+    ensures least { text.old.len ≤ text.new.len }
+    ensures most { text.new.len ≤ text.old.len + LINE }
+{
     text.number("node ", k as u64);
     text.signed(" length ", node.length);
     text.signed(" nulls ", node.nulls);
     text.word("\n");
-    Ok(())
 }
 
 pub(crate) fn buffer<W: Write + Drop>(
@@ -114,39 +163,72 @@ pub(crate) fn buffer<W: Write + Drop>(
     ensures { OnOk result (text.new.len ≤ text.old.len + LINE) }
 {
     text.make_room()?;
+    buffer_words(text, k, buffer);
+    Ok(())
+}
+
+fn buffer_words<W: Write + Drop>(text: &mut Text<W>, k: usize, buffer: &Buffer)
+    requires { text.old.len + LINE ≤ ROOM }
+    ensures least { text.old.len ≤ text.new.len }
+    ensures most { text.new.len ≤ text.old.len + LINE }
+{
     text.number("buffer ", k as u64);
     text.signed(" offset ", buffer.offset);
     text.signed(" length ", buffer.length);
     text.word("\n");
-    Ok(())
 }
 
 pub(crate) fn count<W: Write + Drop>(text: &mut Text<W>, k: usize, value: &i64) -> io::Result<()>
     ensures { OnOk result (text.new.len ≤ text.old.len + LINE) }
 {
     text.make_room()?;
+    count_words(text, k, value);
+    Ok(())
+}
+
+fn count_words<W: Write + Drop>(text: &mut Text<W>, k: usize, value: &i64)
+    requires { text.old.len + LINE ≤ ROOM }
+    ensures least { text.old.len ≤ text.new.len }
+    ensures most { text.new.len ≤ text.old.len + LINE }
+{
     text.number("count ", k as u64);
     text.signed(" value ", *value);
     text.word("\n");
-    Ok(())
 }
 
 pub(crate) fn refused<W: Write + Drop>(text: &mut Text<W>, fault: &Fault) -> io::Result<()>
     ensures { OnOk result (text.new.len ≤ text.old.len + LINE) }
 {
     text.make_room()?;
+    refused_words(text, fault);
+    Ok(())
+}
+
+fn refused_words<W: Write + Drop>(text: &mut Text<W>, fault: &Fault)
+    requires { text.old.len + LINE ≤ ROOM }
+    ensures least { text.old.len ≤ text.new.len }
+    ensures most { text.new.len ≤ text.old.len + LINE }
+{
     text.number("refused ", u64::from(fault.refusal.number()));
     if let Some(place) = &fault.place {
         placed(text, " message ", place);
     }
     text.word("\n");
-    Ok(())
 }
 
 pub(crate) fn finish<W: Write + Drop>(text: &mut Text<W>, end: &Result<(), Fault>) -> io::Result<()>
     ensures { OnOk result (text.new.len ≤ text.old.len + LINE) }
 {
     text.make_room()?;
+    finish_words(text, end);
+    Ok(())
+}
+
+fn finish_words<W: Write + Drop>(text: &mut Text<W>, end: &Result<(), Fault>)
+    requires { text.old.len + LINE ≤ ROOM }
+    ensures least { text.old.len ≤ text.new.len }
+    ensures most { text.new.len ≤ text.old.len + LINE }
+{
     match end {
         Ok(()) => text.word("finish ok\n"),
         Err(fault) => {
@@ -154,5 +236,4 @@ pub(crate) fn finish<W: Write + Drop>(text: &mut Text<W>, end: &Result<(), Fault
             text.word("\n");
         }
     }
-    Ok(())
 }

@@ -54,7 +54,7 @@ fn past_lead(lead: u8, more: &[u8]) -> Option<&[u8]>
 }
 
 // What is left behind the character that the bytes open with. A character of one byte has an arm here too, for which what
-// follows its lead byte is not taken apart: so ASCII takes a quarter less time.
+// follows its lead byte is not taken apart: so ASCII takes little more than half the time.
 fn past_char(text: &[u8]) -> Option<&[u8]>
     requires { 0 < length text.now }
     ensures { MatchOption result (well_formed text.now ≡ false) (λ s. (length s.now < length text.now) × (well_formed text.now ≡ well_formed s.now)) }
